@@ -1,0 +1,11 @@
+pub mod Counts
+pub mod Files
+pub mod Shelf
+pub mod Kept
+pub mod Sink
+pub mod Steps
+pub mod Parts
+pub mod Places
+pub mod Near
+pub mod Lattice
+pub mod Contour

@@ -1,0 +1,18 @@
+//! The bottom of everything: places, cells and moves, lists, and the shelf and sink that a command
+//! works on, with the definitions that all crates above share (specs/). Nothing here knows a file
+//! format. A change here is checked again in every crate, so only what several of them need is added.
+#![tactic(auto)]
+
+mod items;
+mod lattice;
+mod memory;
+mod places;
+mod shelf;
+mod sink;
+
+pub use items::Items;
+pub use lattice::{centre, half_diagonal};
+pub use memory::{MemoryShelf, MemorySink, SteadyShelf, SteadySink};
+pub use places::{Bounds, Cell, CellBox, Move, MoveKind, Point, Pos, Role, Side};
+pub use shelf::{Shelf, ShelfError};
+pub use sink::{Sink, SinkError};
