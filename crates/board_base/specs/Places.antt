@@ -1,6 +1,7 @@
 -- Which numbers may be places of the board, in nanometres.
-use Rattle.std.specs.Prelude.{ℤ, pos, neg_ℤ, ◌≤ℤ◌}
+use Rattle.std.specs.Prelude.{ℤ, pos, neg_ℤ, ◌≤ℤ◌, Option, Some, None}
 use Rattle.board_base.specs.declared.places.Point.{Point}
+use Rattle.board_base.specs.declared.places.Bounds.{Bounds}
 
 -- at most 500 mm in size
 pub record IsCoordinate (v : ℤ) : Type 0 where
@@ -19,3 +20,15 @@ pub record IsNearCoordinate (v : ℤ) : Type 0 where
 pub record IsNearPlace (p : Point) : Type 0 where
   pub x_in : IsNearCoordinate p.x
   pub y_in : IsNearCoordinate p.y
+
+-- a rectangle whose sides are at most so far from zero
+pub record IsWithin (limit : ℤ) (b : Bounds) : Type 0 where
+  pub west : neg_ℤ limit ≤ℤ b.x0
+  pub south : neg_ℤ limit ≤ℤ b.y0
+  pub east : b.x1 ≤ℤ limit
+  pub north : b.y1 ≤ℤ limit
+
+-- the same of a rectangle, where there is one
+abbrev pub AreWithin : ℤ → Option Bounds → Type 0
+AreWithin limit None = Unit {0}
+AreWithin limit (Some b) = IsWithin limit b

@@ -6,13 +6,18 @@
 mod items;
 mod lattice;
 mod memory;
+mod memory_sink;
 mod places;
 mod shelf;
 mod sink;
 
 pub use items::Items;
 pub use lattice::{centre, half_diagonal};
-pub use memory::{MemoryShelf, MemorySink, SteadyShelf, SteadySink};
+pub use memory::{MemoryShelf, SteadyShelf};
+pub use memory_sink::{MemorySink, SteadySink};
 pub use places::{Bounds, Cell, CellBox, Move, MoveKind, Point, Pos, Role, Side};
 pub use shelf::{Shelf, ShelfError};
 pub use sink::{Sink, SinkError};
+
+#[cfg(test)]
+mod tests;

@@ -1,0 +1,91 @@
+//! Which cells of the lattice painted objects keep, and the rectangle round what is dark. A cell is
+//! named here by its centre and half its diagonal, so that finer lattices may use the same rule. The
+//! words of specs/Kept are cited by every crate that cuts copper; proofs/KeptLaws is for those crates.
+#![tactic(auto)]
+
+ghost use Rattle.std.specs.Prelude.{◌≡◌, ℤ, pos, ◌≤ℤ◌, ◌<ℤ◌, Bool, not, ◌&&◌, ◌||◌, Option};
+ghost use Rattle.board_base.specs.Places.{IsNearPlace};
+ghost use Rattle.shape_parts.specs.Shapes.{shape_touches, shape_covers};
+ghost use Rattle.shape_parts.specs.Boxes.{hull as hull_of};
+ghost use Rattle.shape_parts.specs.Cover.{is_kept as is_kept_of};
+ghost use Rattle.copper_cover.specs.Kept.{joined as joined_of, object_box, dark_rectangle as dark_rectangle_of, KeptLaw};
+
+#[cfg(test)]
+mod tests;
+
+use board_base::{Bounds, Point};
+use shape_parts::{Painted, hull};
+
+// What an object makes of a cell: the centre is `c` and half its diagonal `h`.
+fn kept_after(kept: bool, object: &Painted, c: Point, h: i64) -> bool
+    requires c { IsNearPlace c }
+    requires h_low { pos 0 <ℤ h }
+    requires h_high { h ≤ℤ pos 200000 }
+    ensures { result ≡ ((object.now.dark && shape_touches c h object.now.shape) || (kept && not (not object.now.dark && shape_covers c h object.now.shape))) }
+{
+    if object.dark {
+        if kept {
+            true
+        } else {
+            object.shape.touches_at(c, h)
+        }
+    } else if kept {
+        !object.shape.covers_at(c, h)
+    } else {
+        false
+    }
+}
+
+/// Whether a dark object touches the cell, and no later clear object covers it.
+pub fn is_kept(painted: &Vec<Painted>, c: Point, h: i64) -> bool
+    requires c { IsNearPlace c }
+    requires h_low { pos 0 <ℤ h }
+    requires h_high { h ≤ℤ pos 200000 }
+    ensures { result ≡ is_kept_of c h painted.now.items }
+{
+    let mut kept = false;
+    'objects: for object in painted {
+        kept = kept_after(kept, object, c, h);
+    }
+    kept
+}
+
+// The least rectangle that holds both, where there are two.
+fn joined(a: Option<Bounds>, b: Option<Bounds>) -> Option<Bounds>
+    ensures { result ≡ joined_of a b }
+{
+    match a {
+        None => b,
+        Some(x) => match b {
+            None => Some(x),
+            Some(y) => Some(hull(x, y)),
+        },
+    }
+}
+
+// The rectangle grown by a dark object.
+fn with_object(to: Option<Bounds>, object: &Painted) -> Option<Bounds>
+    ensures { result ≡ object_box to object.now }
+{
+    if object.dark {
+        joined(to, object.shape.bounds())
+    } else {
+        to
+    }
+}
+
+/// The rectangle round all dark objects.
+pub fn dark_rectangle(painted: &Vec<Painted>) -> Option<Bounds>
+    ensures { result ≡ dark_rectangle_of painted.now.items }
+{
+    let mut all = None;
+    'objects: for object in painted {
+        all = with_object(all, object);
+    }
+    all
+}
+
+/// A kept cell has its centre in the dark rectangle, grown by half its diagonal.
+pub fn kept_law()
+    ensures { KeptLaw }
+{}

@@ -1,0 +1,5 @@
+pub mod Decimal
+pub mod Fixed
+pub mod Spelled
+pub mod Shown
+pub mod Values

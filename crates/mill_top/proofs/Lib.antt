@@ -1,0 +1,5 @@
+pub mod RunLaws
+pub mod FitsLaws
+pub mod HeadlineLaws
+pub mod TellLaws
+pub mod WordLaws

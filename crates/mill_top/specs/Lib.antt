@@ -1,0 +1,11 @@
+pub mod Limits
+pub mod Numbers
+pub mod Sizes
+pub mod Words
+pub mod Answers
+pub mod Accepted
+pub mod Fits
+pub mod Lines
+pub mod Outputs
+pub mod Run
+pub mod Headline

@@ -1,0 +1,69 @@
+// All that a command reads before it makes anything.
+ghost use Rattle.std.specs.Prelude.{◌≡◌, pos, IfOk};
+ghost use Rattle.board_base.specs.Places.{AreWithin};
+ghost use Rattle.board_base.specs.Shelf.{OnlyReads};
+ghost use Rattle.copper_cover.specs.Kept.{dark_rectangle};
+ghost use Rattle.mill_plan.specs.Job.{IsJob};
+ghost use Rattle.mill_top.specs.Words.{texts};
+ghost use Rattle.mill_top.specs.Run.{IsExactUsage, status_of};
+ghost use Rattle.mill_top.specs.Answers.{Gives, MakesOf};
+ghost use Rattle.mill_top.specs.Accepted.{accepts_of, accepted, image};
+
+use crate::inputs::read_input;
+use crate::words::read_words;
+use crate::{GerberError, GerberKind, Status};
+use board_base::{Role, Shelf};
+use flash_file::{FlashError, read_flashes};
+use mill_plan::Job;
+use shape_parts::Painted;
+use std::alloc::Global;
+
+/// What the words and the files give.
+#[derive(Drop)]
+pub struct Accepted {
+    pub job: Job,
+    pub painted: Vec<Painted>,
+}
+
+// The image of a file.
+fn read_image(alloc: Global, role: Role, bytes: &[u8]) -> Result<Vec<Painted>, Status>
+    ensures made { MakesOf (λ v. v.items) (image role bytes.now) result }
+    ensures within { IfOk result (λ painted. AreWithin (pos 400000000) (dark_rectangle painted.items)) }
+{
+    match read_flashes(alloc, bytes) {
+        Ok(painted) => Ok(painted),
+        Err(FlashError::NotThisForm) => Err(Status::Gerber {
+            role,
+            error: GerberError {
+                kind: GerberKind::NotBuiltYet,
+                at: 0,
+            },
+        }),
+        Err(FlashError::Memory) => Err(Status::Memory),
+    }
+}
+
+/// Reads the words and the files, and refuses by the first of them that is wrong. Nothing is written.
+#[tactic(auto, unfolding(crate::specs::Accepted::accepted))]
+pub fn accept<S: Shelf>(
+    alloc: Global,
+    words: &Vec<String>,
+    shelf: &mut S,
+) -> Result<Accepted, Status>
+    ensures keeps { OnlyReads (S.state shelf.old) (S.state shelf.new) }
+    ensures gives { Gives accepts_of (S.state shelf.old) (S.state shelf.new) (accepted (texts words.now)) result }
+    ensures usage { IsExactUsage (texts words.now) (status_of result) }
+    ensures job { IfOk result (λ x. IsJob x.job) }
+    ensures within { IfOk result (λ x. AreWithin (pos 400000000) (dark_rectangle x.painted.items)) }
+{
+    let spec = match read_words(words) {
+        Ok(spec) => spec,
+        Err(word) => return Err(Status::Usage { word }),
+    };
+    let front = read_input(alloc, shelf, Role::Front, spec.front)?;
+    let painted = read_image(alloc, Role::Front, &front)?;
+    Ok(Accepted {
+        job: spec.job,
+        painted,
+    })
+}

@@ -1,0 +1,24 @@
+-- The other side of the board.
+use Rattle.std.specs.Prelude.{neg_ℤ, List, map, ℤ}
+use Rattle.board_base.specs.declared.places.Point.{Point}
+use Rattle.shape_parts.specs.declared.shape.Part.{Part}
+use Rattle.shape_parts.specs.declared.shape.Part.TheVariants.{Disc, Capsule}
+use Rattle.shape_parts.specs.declared.shape.Piece.{Piece}
+use Rattle.shape_parts.specs.declared.shape.Painted.{Painted}
+
+-- the point on the other side of the y axis
+unfoldable pub mirrored : Point → Point
+mirrored p = record { x = neg_ℤ p.x; y = p.y }
+
+-- the part on the other side
+abbrev pub mirrored_part : Part → Part
+mirrored_part (Disc c d) = Disc (mirrored c) d
+mirrored_part (Capsule a b d) = Capsule (mirrored a) (mirrored b) d
+
+-- the piece on the other side, on where it was
+abbrev pub mirrored_piece : Piece → Piece
+mirrored_piece p = record { part = mirrored_part p.part; on = p.on }
+
+-- the object on the other side, dark where it was
+abbrev pub mirrored_object : Painted → Painted
+mirrored_object o = record { shape = map mirrored_piece o.shape; dark = o.dark }

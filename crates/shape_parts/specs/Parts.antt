@@ -1,0 +1,54 @@
+-- Which points and cells a part holds, touches and covers. A cell is named by its centre c and half its diagonal h.
+use Rattle.std.specs.List.{HoldsAt}
+use Rattle.std.specs.Prelude.{◌≡◌, ℕ, List, ℤ, pos, ◌+ℤ◌, ◌-ℤ◌, ◌*ℤ◌, ◌≤ℤ◌, int_lt, Bool, true, false, not, ◌&&◌, ◌||◌}
+use Rattle.board_base.specs.declared.places.Point.{Point}
+use Rattle.board_base.specs.Near.{near_of}
+use Rattle.board_base.specs.Places.{IsNearPlace}
+use Rattle.shape_parts.specs.declared.shape.Part.{Part}
+use Rattle.shape_parts.specs.declared.shape.Piece.{Piece}
+use Rattle.shape_parts.specs.declared.shape.Part.TheVariants.{Disc, Capsule}
+
+-- the width that a cell of half diagonal h adds
+unfoldable pub twice : ℤ → ℤ
+twice h = pos 2 *ℤ h
+
+-- the width d with h more on each side
+unfoldable pub grown : ℤ → ℤ → ℤ
+grown d h = d +ℤ pos 2 *ℤ h
+
+-- the width d with h less on each side
+unfoldable pub shrunk : ℤ → ℤ → ℤ
+shrunk d h = d -ℤ pos 2 *ℤ h
+
+-- the part holds q
+abbrev pub part_holds : Point → Part → Bool
+part_holds q (Disc c d) = int_lt (pos 0) d && near_of q c c d
+part_holds q (Capsule a b d) = int_lt (pos 0) d && near_of q a b d
+
+-- grown by h, the part reaches the centre c
+abbrev pub part_touches : Point → ℤ → Part → Bool
+part_touches c h (Disc a d) = int_lt (pos 0) d && near_of c a a (grown d h)
+part_touches c h (Capsule a b d) = int_lt (pos 0) d && near_of c a b (grown d h)
+
+-- shrunk by h, the part still reaches the centre c
+abbrev pub part_covers : Point → ℤ → Part → Bool
+part_covers c h (Disc a d) = int_lt (twice h) d && near_of c a a (shrunk d h)
+part_covers c h (Capsule a b d) = int_lt (twice h) d && near_of c a b (shrunk d h)
+
+-- a width: at most a metre
+pub record IsWidth (d : ℤ) : Type 0 where
+  pub low : pos 0 ≤ℤ d
+  pub high : d ≤ℤ pos 1000000000
+
+-- a part that a shape may hold
+abbrev pub IsPart : Part → Type 0
+IsPart (Disc c d) = IsNearPlace c × IsWidth d
+IsPart (Capsule a b d) = IsNearPlace a × IsNearPlace b × IsWidth d
+
+-- a piece that a shape may hold
+abbrev pub IsPiece : Piece → Type 0
+IsPiece p = IsPart p.part
+
+-- the fact holds of piece k
+abbrev pub HoldsPiece : List Piece → ℕ → (Piece → Type 0) → Type 0
+HoldsPiece pieces k P = HoldsAt P pieces k

@@ -1,0 +1,68 @@
+// The other side of the board.
+ghost use Rattle.std.specs.Prelude.{◌≡◌, List, map, IfOk};
+ghost use Rattle.std.specs.List.{All};
+ghost use Rattle.shape_parts.specs.Parts.{IsPart, IsPiece};
+ghost use Rattle.board_base.specs.Places.{IsNearPlace};
+ghost use Rattle.shape_parts.specs.Mirror.{mirrored as mirrored_of, mirrored_part as mirrored_part_of, mirrored_piece, mirrored_object};
+
+use crate::shape::{Painted, Part, Piece};
+use board_base::Point;
+use std::alloc::{AllocError, Global};
+
+// The point on the other side of the y axis.
+#[tactic(auto, unfolding(crate::specs::Mirror::mirrored))]
+fn mirrored(p: Point) -> Point
+    requires { IsNearPlace p }
+    ensures value { result ≡ mirrored_of p }
+    ensures place { IsNearPlace result }
+{
+    Point { x: -p.x, y: p.y }
+}
+
+// The part with every x negated.
+fn mirrored_part(part: &Part) -> Part
+    requires { IsPart part.now }
+    ensures value { result ≡ mirrored_part_of part.now }
+    ensures fits { IsPart result }
+{
+    match part {
+        Part::Disc { c, d } => Part::Disc {
+            c: mirrored(*c),
+            d: *d,
+        },
+        Part::Capsule { a, b, d } => Part::Capsule {
+            a: mirrored(*a),
+            b: mirrored(*b),
+            d: *d,
+        },
+    }
+}
+
+// The pieces with every x negated.
+pub(crate) fn mirrored_pieces(alloc: Global, pieces: &[Piece]) -> Result<Vec<Piece>, AllocError>
+    requires { All IsPiece pieces.now }
+    ensures value { IfOk result (λ v. v.items ≡ map mirrored_piece pieces.now) }
+    ensures fit { IfOk result (λ v. All IsPiece v.items) }
+{
+    let mut all = Vec::new(alloc);
+    'pieces: for piece in pieces {
+        let part = mirrored_part(&piece.part);
+        all.push(Piece { part, on: piece.on })?;
+    }
+    Ok(all)
+}
+
+/// The objects with every x negated.
+pub fn mirror_x(alloc: Global, painted: &Vec<Painted>) -> Result<Vec<Painted>, AllocError>
+    ensures { IfOk result (λ v. v.items ≡ map mirrored_object painted.now.items) }
+{
+    let mut all = Vec::new(alloc);
+    'objects: for object in painted {
+        let shape = object.shape.mirrored(alloc)?;
+        all.push(Painted {
+            shape,
+            dark: object.dark,
+        })?;
+    }
+    Ok(all)
+}
