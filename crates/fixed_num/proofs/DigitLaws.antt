@@ -98,5 +98,5 @@ size_value n w p scale kept whole f g is_whole is_all least power same =
     let cut : take kept f ≡ take scale g = ap (λ k. take k f) (sym below.2) ∙ take_min scale f ∙ ap (take scale) same in
     let left : scale - kept ≡ scale - length g = omega (arith, least, ap length same) in
     let value : n ≡ digits_value 10 (whole ++ take scale g) =
-        is_all ∙ ap (λ v. digits_value_after 10 v (take kept f)) is_whole ∙ ap (λ ds. digits_value_after 10 (digits_value_after 10 0 whole) ds) cut ∙ sym (after_append 0 whole (take scale g)) in
+    is_all ∙ ap (λ v. digits_value_after 10 v (take kept f)) is_whole ∙ ap (λ ds. digits_value_after 10 (digits_value_after 10 0 whole) ds) cut ∙ sym (after_append 0 whole (take scale g)) in
     ap (λ m. m * p) value ∙ ap (λ q. digits_value 10 (whole ++ take scale g) * q) (power ∙ ap (λ z. 10 ^ z) left)

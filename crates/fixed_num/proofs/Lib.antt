@@ -1,3 +1,4 @@
 pub mod DigitLaws
 pub mod SpelledLaws
 pub mod UsedLaws
+pub mod ValueLaws

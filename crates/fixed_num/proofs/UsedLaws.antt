@@ -1,12 +1,12 @@
 -- Digits up to the last one that isn't 0.
-use Rattle.std.proofs.Common.{◌≡◌, refl, ℕ, suc, zero, ◌+◌, ◌-◌, ◌<◌, ◌≤◌, List, Bool, true, false, length, drop, get_or, arith, ap, sym, ◌∙◌}
-use Rattle.std.specs.Prelude.{◌↔◌, ◌⊎◌, inl, inr}
-use Rattle.std.specs.List.{All, suffix_len, prefix_len, reverse}
+use Rattle.std.proofs.Common.{◌≡◌, ℕ, ◌+◌, ◌-◌, ◌<◌, ◌≤◌, List, true, false, length, drop, get_or, arith, ap, sym, ◌∙◌, inl, inr}
+use Rattle.std.specs.Prelude.{◌⊎◌, reverse}
+use Rattle.std.specs.List.{All, suffix_len}
 use Rattle.std.proofs.lemmas.Bool.{cases_lt}
 use Rattle.std.proofs.lemmas.Grind.{common_steps}
 use Rattle.std.proofs.lemmas.List.{get_or-reverse, length-reverse, get_or-drop, length-drop}
 use Rattle.std.proofs.lemmas.List.Sums.{prefix_len_passes, prefix_len_stops, suffix_len_is, suffix_len-le-length}
-use Rattle.fixed_num.specs.Decimal.{Decimal, fraction_of, EndsBy}
+use Rattle.fixed_num.specs.Decimal.{fraction_of}
 use Rattle.fixed_num.specs.Values.{is_zero, decimals_used, UsedLaw}
 
 -- the loop's end: zeros from here on, and none before
@@ -39,13 +39,13 @@ ends_used : (scale : ℕ) (digits : List ℕ) → All (λ b. b ≡ 48) (drop sca
 unfolding decimals_used
 ends_used scale digits all = by_place (cases_lt scale (length digits - suffix_len is_zero digits))
   where
-  by_place : (scale < length digits - suffix_len is_zero digits) ⊎ (length digits - suffix_len is_zero digits ≤ scale) → length digits - suffix_len is_zero digits ≤ scale
-  by_place (inr h) = h
-  by_place (inl h) =
-      let last : ℕ = length digits - 1 - suffix_len is_zero digits in
-      let here = all (last - scale) 0 (omega (arith, length-drop scale digits)) in
-      let place : scale + (last - scale) ≡ last = omega arith in
-      absurd (no_zero (get_or digits last 0) (last_used digits (omega arith)) (ap (λ j. get_or digits j 0) (sym place) ∙ sym (get_or-drop scale digits (last - scale) 0) ∙ here))
+    by_place : (scale < length digits - suffix_len is_zero digits) ⊎ (length digits - suffix_len is_zero digits ≤ scale) → length digits - suffix_len is_zero digits ≤ scale
+    by_place (inr h) = h
+    by_place (inl h) =
+        let last : ℕ = length digits - 1 - suffix_len is_zero digits in
+        let here = all (last - scale) 0 (omega (arith, length-drop scale digits)) in
+        let place : scale + (last - scale) ≡ last = omega arith in
+        absurd (no_zero (get_or digits last 0) (last_used digits (omega arith)) (ap (λ j. get_or digits j 0) (sym place) ∙ sym (get_or-drop scale digits (last - scale) 0) ∙ here))
 
 used_ends : (scale : ℕ) (digits : List ℕ) → decimals_used digits ≤ scale → All (λ b. b ≡ 48) (drop scale digits)
 unfolding decimals_used

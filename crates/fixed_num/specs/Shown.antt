@@ -1,5 +1,4 @@
 -- What contracts see of a decimal in its text.
-use Rattle.std.specs.Prelude.{Option}
 use Rattle.std.specs.Option.{option_map}
 use Rattle.fixed_num.specs.Decimal.{Sign, none, plus, minus, Decimal}
 use Rattle.fixed_num.specs.declared.decimal.SignMark.{SignMark}

@@ -23,3 +23,6 @@ pub fn decimal_law()
 pub fn used_law()
     ensures { UsedLaw }
 {}
+
+#[cfg(test)]
+mod tests;

@@ -5,6 +5,7 @@
 
 mod cuts;
 mod listing;
+mod words;
 
 pub use cuts::{Corner, Cut, Program, ToolRun};
 pub use listing::lines;

@@ -1,10 +1,28 @@
 -- What is written for what was accepted.
-use Rattle.std.proofs.Common.{◌≡◌, ◌≢◌, refl, ℕ, List, [], ◌∷◌, ◌++◌, codes, sym, subst}
+use Rattle.std.proofs.Common.{◌≡◌, ◌≢◌, refl, ℕ, List, [], ◌∷◌, ◌++◌, codes, sym, ap, ◌∙◌, subst}
 use Rattle.board_base.specs.declared.places.Role.{Role}
 use Rattle.board_base.specs.declared.places.Role.TheVariants as roles
+use Rattle.shape_parts.specs.declared.shape.Painted.{Painted}
+use Rattle.rs274_sim.specs.declared.line.Line.{Line}
+use Rattle.rs274_sim.specs.Text.{StandsFor}
+use Rattle.rs274_sim.specs.Spelling.{text_of}
+use Rattle.rs274_sim.specs.Runs.{Runs, RunsTo}
+use Rattle.mill_program.specs.declared.cuts.Program.{Program}
+use Rattle.mill_program.specs.Lines.{lines_of}
+use Rattle.mill_plan.specs.declared.job.Job.{Job}
+use Rattle.mill_plan.specs.Mills.{Mills, IsProgramOf}
 use Rattle.mill_top.specs.Outputs.{Output, NoneIsLines}
 use Rattle.mill_top.specs.Accepted.{Accepts}
 use Rattle.mill_top.specs.Fits.{OneFile, Adds, Fits, IsIsolation, front_part}
+
+-- what is written from the lines of such a program is an isolation program
+pub isolation_made : (job : Job) (painted : List Painted) (program : Program) (lines : List Line) (bytes : List ℕ) → IsProgramOf job program → lines ≡ lines_of program
+    → RunsTo (lines_of program) (Mills job painted) → bytes ≡ text_of lines → StandsFor bytes lines → IsIsolation job painted bytes
+unfolding Runs
+isolation_made job painted program lines bytes words same runs text stands = record {
+  words = (program, words, text ∙ ap text_of same);
+  runs = (lines, stands, subst (λ ls. RunsTo ls (Mills job painted)) (sym same) runs);
+}
 
 -- all that was added to nothing
 pub all_added : (P : List Output → Type 0) (now : List Output) → Adds P [] now → P now

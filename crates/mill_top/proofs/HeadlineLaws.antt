@@ -10,7 +10,7 @@ use Rattle.board_base.specs.Shelf.{ShelfState}
 use Rattle.board_base.specs.Sink.{SinkState}
 use Rattle.board_base.specs.Steps.{◌>>=◌}
 use Rattle.shape_parts.specs.declared.shape.Painted.{Painted}
-use Rattle.rs274_sim.specs.Runs.{Runs}
+use Rattle.rs274_sim.specs.Runs.{Runs, RunsTo}
 use Rattle.flash_file.specs.Flashes.{image_of}
 use Rattle.mill_plan.specs.declared.job.Job.{Job}
 use Rattle.mill_plan.specs.Mills.{Mills}
@@ -123,7 +123,8 @@ pub text_of_isolation : (job : Job) (painted : List Painted) (bytes : List ℕ) 
 text_of_isolation job painted bytes i = i.words
 
 runs_weaker : (bytes : List ℕ) (P Q : List Move → Type 0) → ((moves : List Move) → P moves → Q moves) → Runs bytes P → Runs bytes Q
-runs_weaker bytes P Q weaker (lines, stands, moves, run, holds) = (lines, stands, moves, run, weaker moves holds)
+unfolding Runs RunsTo
+runs_weaker bytes P Q weaker (lines, stands, (moves, run, holds)) = (lines, stands, (moves, run, weaker moves holds))
 
 pub isolation_never_bites : (job : Job) (painted : List Painted) (bytes : List ℕ) → IsIsolation job painted bytes → NeverBites job painted bytes
 isolation_never_bites job painted bytes i = runs_weaker bytes (Mills job painted) _ (λ moves m. m.no_bite) i.runs

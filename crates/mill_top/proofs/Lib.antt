@@ -3,3 +3,4 @@ pub mod FitsLaws
 pub mod HeadlineLaws
 pub mod TellLaws
 pub mod WordLaws
+pub mod SizeLaws

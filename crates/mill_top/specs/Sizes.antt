@@ -1,6 +1,6 @@
 -- Names and lengths in the words of a command.
-use Rattle.std.specs.Prelude.{ℕ, ◌*◌, ◌%◌, ℤ, pos, unsigned_abs, Bool, true, false, ◌&&◌, List, [], ◌∷◌, length, drop, Option, Some, None, if◌then◌else◌, nat_le, nat_lt, nat_eq, int_lt, codes}
-use Rattle.std.specs.List.{starts_with, list_all}
+use Rattle.std.specs.Prelude.{ℕ, ◌*◌, ◌%◌, ℤ, pos, unsigned_abs, Bool, true, false, ◌&&◌, List, [], ◌∷◌, length, Option, Some, None, if◌then◌else◌, nat_le, nat_lt, nat_eq, int_lt, codes}
+use Rattle.std.specs.List.{list_all}
 use Rattle.board_base.specs.Parts.{◌>>=◌}
 use Rattle.board_base.specs.Lattice.{half_diagonal_of}
 use Rattle.fixed_num.specs.Decimal.{Sign, none, plus, minus, Decimal, fraction_of, value_at}
@@ -8,7 +8,9 @@ use Rattle.fixed_num.specs.Spelled.{decimal_of}
 
 -- the text behind a key
 abbrev pub after : List ℕ → List ℕ → Option (List ℕ)
-after key word = if starts_with nat_eq word key then Some (drop (length key) word) else None
+after [] word = Some word
+after (k ∷ key) [] = None
+after (k ∷ key) (b ∷ word) = if nat_eq k b then after key word else None
 
 -- a printable byte of ASCII, a space too
 abbrev pub is_printable : ℕ → Bool
@@ -43,17 +45,24 @@ is_short d = nat_le (length d.whole) 3 && nat_le (length (fraction_of d)) 3
 abbrev pub size_of : Decimal → ℕ
 size_of d = unsigned_abs (value_at 3 d)
 
--- the size of a decimal of this form, where it lies from the least to the most
-abbrev pub ranged : Bool → ℕ → ℕ → Decimal → Option ℕ
-ranged negative least most d =
-    if is_wanted negative d.sign && is_short d && nat_le least (size_of d) && nat_le (size_of d) most then Some (size_of d) else None
+-- the size of a decimal of this form
+abbrev pub wanted : Bool → Decimal → Option ℕ
+wanted negative d = if is_wanted negative d.sign && is_short d then Some (size_of d) else None
+
+-- the size that bytes of this form spell
+unfoldable pub wanted_size : Bool → List ℕ → Option ℕ
+wanted_size negative bytes = decimal_of bytes >>= wanted negative
+
+-- a size from the least to the most
+abbrev pub ranged : ℕ → ℕ → ℕ → Option ℕ
+ranged least most n = if nat_le least n && nat_le n most then Some n else None
 
 -- the micrometres behind a key, from the least to the most
-abbrev pub micrometres : List ℕ → Bool → ℕ → ℕ → List ℕ → Option ℕ
+unfoldable pub micrometres : List ℕ → Bool → ℕ → ℕ → List ℕ → Option ℕ
 micrometres key negative least most word = do
   text ← after key word
-  d ← decimal_of text
-  ranged negative least most d
+  n ← wanted_size negative text
+  ranged least most n
 
 -- an even number
 abbrev pub if_even : ℕ → Option ℕ

@@ -17,3 +17,6 @@ mod words;
 
 pub use status::{GerberError, GerberKind, Status};
 pub use top::run;
+
+#[cfg(test)]
+mod tests;

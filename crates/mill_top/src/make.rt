@@ -24,7 +24,8 @@ fn isolation(alloc: Global, painted: &Vec<Painted>, job: &Job) -> Result<Vec<u8>
 {
     let program = isolate(alloc, painted, job)?;
     let lines = lines(alloc, &program)?;
-    write_program(alloc, &lines)
+    let bytes = write_program(alloc, &lines)?;
+    Ok(bytes)
 }
 
 // Adds a file.

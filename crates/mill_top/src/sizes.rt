@@ -1,9 +1,10 @@
 // Names and lengths in the words of a command.
 ghost use Rattle.std.specs.Prelude.{◌≡◌, ◌*◌, ◌%◌, ◌≤◌, ◌<◌, ◌<ℤ◌, pos, MatchOption, Some, None};
+ghost use Rattle.std.specs.List.{list_all};
 ghost use Rattle.std.specs.Option.{option_copied};
 ghost use Rattle.board_base.specs.Lattice.{half_diagonal_of};
-ghost use Rattle.fixed_num.specs.Shown.{sign_shown};
-ghost use Rattle.mill_top.specs.Sizes.{after as text_after, is_name as is_name_of, front_name, is_wanted as is_wanted_of, micrometres as micrometres_of, pitch_in as pitch_of, diameter_in as diameter_of, tolerance_in as tolerance_of, depth_in as depth_of};
+ghost use Rattle.fixed_num.specs.Shown.{sign_shown, decimal_shown};
+ghost use Rattle.mill_top.specs.Sizes.{after as text_after, is_printable as is_printable_of, is_name as is_name_of, front_name, is_wanted as is_wanted_of, is_short as is_short_of, wanted_size, micrometres as micrometres_of, pitch_in as pitch_of, diameter_in as diameter_of, tolerance_in as tolerance_of, depth_in as depth_of};
 
 use board_base::half_diagonal;
 use fixed_num::{DecimalText, SignMark, cut_decimal, split_decimal};
@@ -12,15 +13,32 @@ use fixed_num::{DecimalText, SignMark, cut_decimal, split_decimal};
 fn after<'a>(word: &'a str, key: &str) -> Option<&'a str>
     ensures { option_copied result ≡ text_after key.now word.now }
 {
-    word.strip_prefix(key)
+    match word.strip_prefix(key) {
+        Some(rest) => Some(rest),
+        None => None,
+    }
+}
+
+fn is_printable(byte: u8) -> bool
+    ensures { result ≡ is_printable_of byte }
+{
+    32 <= byte && byte <= 126
+}
+
+fn are_printable(bytes: &[u8]) -> bool
+    ensures { result ≡ list_all is_printable_of bytes.now }
+{
+    bytes.iter().all(|byte| is_printable(*byte))
 }
 
 // Whether these are 1 to 200 printable bytes.
 fn is_name(text: &str) -> bool
     ensures { result ≡ is_name_of text.now }
 {
-    let bytes = text.as_bytes();
-    1 <= bytes.len() && bytes.len() <= 200 && bytes.iter().all(|b| 32 <= *b && *b <= 126)
+    if text.is_empty() || text.len() > 200 {
+        return false;
+    }
+    are_printable(text.as_bytes())
 }
 
 /// The name behind `--front=`.
@@ -43,21 +61,35 @@ fn is_wanted(negative: bool, sign: SignMark) -> bool
 }
 
 // Whether there are at most three digits before the point and three behind it.
-fn is_short(text: &DecimalText<'_>) -> bool {
-    text.whole.len() <= 3 && text.decimals().len() <= 3
+fn is_short(text: &DecimalText<'_>) -> bool
+    ensures { result ≡ is_short_of (decimal_shown text.now) }
+{
+    text.whole.len() <= 3 && text.fraction.map_or(0, |digits| digits.len()) <= 3
+}
+
+// The size of a decimal of millimetres, in micrometres, where it is short and has the wanted sign.
+#[tactic(auto, unfolding(crate::specs::Sizes::wanted_size))]
+fn size_in(bytes: &[u8], negative: bool) -> Option<u128>
+    ensures { MatchOption result (wanted_size negative bytes.now ≡ None) (λ n. wanted_size negative bytes.now ≡ Some n) }
+{
+    let text = split_decimal(bytes)?;
+    if !is_wanted(negative, text.sign) || !is_short(&text) {
+        return None;
+    }
+    match cut_decimal(bytes, 3) {
+        Ok(value) => Some(value.unsigned_abs()),
+        Err(_) => None,
+    }
 }
 
 // The micrometres behind a key, from the least to the most.
+#[tactic(auto, unfolding(crate::specs::Sizes::micrometres))]
 fn micrometres(word: &str, key: &str, negative: bool, least: u32, most: u32) -> Option<u32>
     ensures { MatchOption result (micrometres_of key.now negative least most word.now ≡ None)
         (λ n. (micrometres_of key.now negative least most word.now ≡ Some n) × (least ≤ n) × (n ≤ most)) }
 {
-    let digits = after(word, key)?.as_bytes();
-    let text = split_decimal(digits)?;
-    if !is_wanted(negative, text.sign) || !is_short(&text) {
-        return None;
-    }
-    let size = cut_decimal(digits, 3).ok()?.unsigned_abs();
+    let text = after(word, key)?;
+    let size = size_in(text.as_bytes(), negative)?;
     if least as u128 <= size && size <= most as u128 {
         Some(size as u32)
     } else {
@@ -74,6 +106,28 @@ pub fn pitch_in(word: &str) -> Option<u32>
     if pitch % 2 == 0 { Some(pitch) } else { None }
 }
 
+// Micrometres in nanometres.
+fn nanometres(micrometres: u32) -> i64
+    ensures { result ≡ pos (micrometres * 1000) }
+{
+    micrometres as i64 * 1000
+}
+
+// The half diagonal of cells with a pitch in micrometres.
+fn half_of_cell(pitch: u32) -> i64
+    requires { (100 ≤ pitch) × (pitch ≤ 200) × (pitch % 2 ≡ 0) }
+    ensures { result ≡ half_diagonal_of (pos (pitch * 1000)) }
+{
+    half_diagonal(nanometres(pitch))
+}
+
+// Half of a diameter in micrometres, in nanometres.
+fn radius(d: u32) -> i64
+    ensures { result ≡ pos (d * 500) }
+{
+    d as i64 * 500
+}
+
 /// The cutter's diameter in micrometres, behind `--mill-diameters=`.
 pub fn diameter_in(word: &str, pitch: u32) -> Option<u32>
     requires { (100 ≤ pitch) × (pitch ≤ 200) × (pitch % 2 ≡ 0) }
@@ -82,7 +136,7 @@ pub fn diameter_in(word: &str, pitch: u32) -> Option<u32>
         × (half_diagonal_of (pos (pitch * 1000)) <ℤ pos (d * 500))) }
 {
     let d = micrometres(word, "--mill-diameters=", false, 20, 10_000)?;
-    if half_diagonal(pitch as i64 * 1000) < d as i64 * 500 {
+    if half_of_cell(pitch) < radius(d) {
         Some(d)
     } else {
         None

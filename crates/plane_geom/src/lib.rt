@@ -179,8 +179,7 @@ fn near_by_spans(ux: i128, uy: i128, wx: i128, wy: i128, vx: i128, vy: i128, d: 
     }
 }
 
-/// Whether twice the distance of `q` from the segment `ab` is at most `d`.
-#[tactic(auto, unfolding(board_base::specs::Near::near_of))]
+/// Whether twice the distance of `q` from the segment `ab` is at most `d`, all in nanometres.
 pub fn near(q: Point, a: Point, b: Point, d: i64) -> bool
     requires q { IsNearPlace q }
     requires a { IsNearPlace a }

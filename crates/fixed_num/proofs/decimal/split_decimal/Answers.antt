@@ -1,3 +1,4 @@
+use Rattle.std.proofs.Common.{rules}
 use Rattle.fixed_num.specs.Shown.{decimal_shown}
 use Rattle.fixed_num.proofs.SpelledLaws.{from_test}
 use Rattle.fixed_num.proofs.decimal.split_decimal.Goals as goal

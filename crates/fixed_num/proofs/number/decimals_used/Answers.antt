@@ -1,4 +1,4 @@
-use Rattle.std.proofs.Common.{arith, rules}
+use Rattle.std.proofs.Common.{arith}
 use Rattle.std.proofs.lemmas.Grind.{common_steps}
 use Rattle.fixed_num.proofs.UsedLaws.{used_is}
 use Rattle.fixed_num.proofs.number.decimals_used.Goals as goal

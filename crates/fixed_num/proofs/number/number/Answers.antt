@@ -1,5 +1,4 @@
-use Rattle.std.proofs.Common.{arith, sym, ◌∙◌}
-use Rattle.std.proofs.lemmas.Grind.{common_steps}
+use Rattle.std.proofs.Common.{arith, sym, ◌∙◌, ◌+◌}
 use Rattle.fixed_num.proofs.DigitLaws.{digit_in, more_digit, more_room}
 use Rattle.fixed_num.proofs.number.number.Goals as goal
 

@@ -1,4 +1,4 @@
-use Rattle.std.proofs.Common.{arith, rules, sym, subst, length, ◌*◌, ◌<◌, ◌^◌}
+use Rattle.std.proofs.Common.{arith, sym, subst, length, ◌*◌, ◌<◌, ◌^◌}
 use Rattle.std.specs.Str.Parse.{AllDigits}
 use Rattle.fixed_num.proofs.DigitLaws.{eighteen, all_taken, size_bound, size_value}
 use Rattle.fixed_num.proofs.number.size_of.Goals as goal
@@ -13,7 +13,7 @@ pub overflow_mul-result : goal.overflow_mul-result
 overflow_mul-result c =
     let small = eighteen c.number-whole.result (length c.args.text.now.whole.now) c.number-whole.ensures.bound c.requires.short in
     let bound : c.number-cut.result * c.pow.result < 10 ^ 30 =
-        size_bound c.number-cut.result c.number-whole.result c.pow.result c.args.scale c.min-kept.result c.decimals-decimals.result.now c.number-cut.ensures.bound small c.min-kept.ensures c.pow.ensures c.requires.scale in
+    size_bound c.number-cut.result c.number-whole.result c.pow.result c.args.scale c.min-kept.result c.decimals-decimals.result.now c.number-cut.ensures.bound small c.min-kept.ensures c.pow.ensures c.requires.scale in
     omega (arith, bound)
 
 pub returns-clause-value : goal.returns-clause-value

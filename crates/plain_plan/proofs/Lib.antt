@@ -1,0 +1,4 @@
+pub mod RowLaws
+pub mod BorderLaws
+pub mod IndexLaws
+pub mod FrameLaws

@@ -1,0 +1,7 @@
+use Rattle.std.proofs.Common.{◌≡◌, ℤ, ℕ, pos, take}
+use Rattle.std.specs.List.{All}
+use Rattle.plain_plan.specs.Rows.{IsIndexed, IsInBox, IsBoxWithin}
+use Rattle.plain_plan.proofs.frame.box_round.Given as goal
+
+abbrev pub invariant-cells : goal.invariant-cells
+invariant-cells l = IsBoxWithin 1000000 l.b × All (IsInBox l.b) (take l.c-index l.cells.items)
