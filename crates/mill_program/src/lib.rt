@@ -4,8 +4,10 @@
 #![tactic(auto)]
 
 mod cuts;
+mod laws;
 mod listing;
 mod words;
 
 pub use cuts::{Corner, Cut, Program, ToolRun};
+pub use laws::run_law;
 pub use listing::lines;

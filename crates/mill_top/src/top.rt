@@ -1,6 +1,7 @@
 // The top call.
 ghost use Rattle.std.specs.Prelude.{◌≡◌, ◌⊎◌, IsOk, Err, ⊤};
 ghost use Rattle.board_base.specs.Counts.{Rose};
+ghost use Rattle.mill_top.specs.declared.status.Status.{Status};
 ghost use Rattle.mill_top.specs.Words.{texts};
 ghost use Rattle.mill_top.specs.Run.{Leaves, HasCause, Tells, IsBeforeLines, MillHasCause, IsExactUsage, NoFault};
 ghost use Rattle.mill_top.specs.Fits.{IsTextOf};
@@ -58,6 +59,10 @@ pub fn run<S: Shelf, K: Sink>(
         → NoFault (S.state shelf.old) (S.state shelf.new) (K.state out.old) (K.state out.new)
         → ToldAnd (S.state shelf.old).files (λ _. ⊤)
         → (result ≡ Status.Done) ⊎ (result ≡ Status.Memory) }
+
+    ensures refused { IfTold (S.state shelf.old).files (λ files. (status : Status) → accepted (texts words.now) files ≡ Err status
+        → (result ≡ status) ⊎ (result ≡ Status.Memory)
+        ⊎ Rose (S.state shelf.old).read_faults (S.state shelf.new).read_faults) }
 
     // What was written, from the bytes read to the bytes written.
     ensures words { result ≡ Status.Done → IfTold (S.state shelf.old).files
