@@ -1,5 +1,5 @@
 -- A kept cell has its centre in the dark rectangle grown by h; and the rectangle of one more object.
-use Rattle.std.proofs.Common.{◌≡◌, ℤ, pos, ◌+ℤ◌, ◌-ℤ◌, ◌≤ℤ◌, int_lt, Bool, true, false, not, cond, ◌&&◌, ◌||◌, List, [], ◌∷◌, ◌++◌, Option, Some, None, refl, sym, arith}
+use Rattle.std.proofs.Common.{◌≡◌, ℤ, pos, ◌+ℤ◌, ◌-ℤ◌, ◌≤ℤ◌, int_lt, Bool, true, false, not, cond, ◌&&◌, List, [], ◌∷◌, ◌++◌, Option, Some, None, refl, arith}
 use Rattle.std.specs.List.{fold, list_any}
 use Rattle.std.specs.Int.{int_min, int_max}
 use borrow.Author.Differences.{ints}
@@ -8,7 +8,7 @@ use Rattle.board_base.specs.declared.places.Bounds.{Bounds}
 use Rattle.shape_parts.specs.declared.shape.Painted.{Painted}
 use Rattle.shape_parts.specs.Shapes.{shape_touches, shape_covers}
 use Rattle.shape_parts.specs.Boxes.{hull, shape_box}
-use Rattle.shape_parts.specs.BoxLaw.{HasSquare, Has}
+use Rattle.shape_parts.specs.BoxLaw.{Has}
 use Rattle.shape_parts.specs.Cover.{is_kept}
 use Rattle.shape_parts.proofs.Standing.{first_true, second_true, either}
 use Rattle.shape_parts.proofs.BoxLaws.{box_law_holds}

@@ -36,7 +36,8 @@ fn kept_after(kept: bool, object: &Painted, c: Point, h: i64) -> bool
     }
 }
 
-/// Whether a dark object touches the cell, and no later clear object covers it.
+/// Whether a dark object touches the cell round `c`, whose half diagonal is `h`, and no later clear
+/// object covers it. Lengths are in nanometres.
 pub fn is_kept(painted: &Vec<Painted>, c: Point, h: i64) -> bool
     requires c { IsNearPlace c }
     requires h_low { pos 0 <ℤ h }
@@ -74,7 +75,7 @@ fn with_object(to: Option<Bounds>, object: &Painted) -> Option<Bounds>
     }
 }
 
-/// The rectangle round all dark objects.
+/// The rectangle round all dark objects, or none where nothing dark has a width.
 pub fn dark_rectangle(painted: &Vec<Painted>) -> Option<Bounds>
     ensures { result ≡ dark_rectangle_of painted.now.items }
 {

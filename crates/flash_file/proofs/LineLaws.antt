@@ -1,6 +1,6 @@
 -- The first line of bytes.
 use Rattle.std.proofs.Common.{◌≡◌, refl, ℕ, suc, zero, ◌+◌, ◌-◌, ◌<◌, ◌≤◌, List, [], ◌∷◌, ◌++◌, Option, Some, None, Bool, true, false, cond, length, take, drop, get_or, arith, ap, sym, ◌∙◌, subst, inl, inr}
-use Rattle.std.specs.Prelude.{nat_lt, ◌==◌}
+use Rattle.std.specs.Prelude.{nat_lt, ◌⊎◌}
 use Rattle.std.specs.List.{All, position, position_or_len, prefix_len, slice_split, before_first, after_first}
 use Rattle.std.proofs.lemmas.Bool.{cases_lt}
 use Rattle.std.proofs.lemmas.Grind.{common_steps}
@@ -21,25 +21,31 @@ place_there p bs h = ap (λ b. cond b (Some (position_or_len p bs)) None) (is_be
 place_none : (p : ℕ → Bool) (bs : List ℕ) → length bs ≤ position_or_len p bs → position p bs ≡ None
 place_none p bs h = ap (λ b. cond b (Some (position_or_len p bs)) None) (is_not_below (position_or_len p bs) (length bs) h)
 
+-- what is found is one pair
+one_pair : (o : Option (List ℕ × List ℕ)) (a b c d : List ℕ) → o ≡ Some (a, b) → o ≡ Some (c, d) → (a ≡ c) × (b ≡ d)
+one_pair o a b c d e f =
+    let both : ◌≡◌ {A = List ℕ × List ℕ} (a, b) (c, d) = cc in
+    (ap (λ (p : List ℕ × List ℕ). p.0) both, ap (λ (p : List ℕ × List ℕ). p.1) both)
+
+no_pair : (o : Option (List ℕ × List ℕ)) (c d : List ℕ) → o ≡ None → o ≡ Some (c, d) → ⊥
+no_pair o c d e f = cc
+
 -- the first line ends at the first LF
 pub first_line : (bs line more : List ℕ) → cut 10 bs ≡ Some (line, more) → lines_of bs ≡ line ∷ lines_of more
 unfolding cut
 first_line bs line more e = by_place (cases_lt (position_or_len is_line_feed bs) (length bs))
   where
-  by_place : (position_or_len is_line_feed bs < length bs) ⊎ (length bs ≤ position_or_len is_line_feed bs) → lines_of bs ≡ line ∷ lines_of more
-  by_place (inl h) =
-      let halves : Some (before_first is_line_feed bs, after_first is_line_feed bs) ≡ Some (line, more) = ap (round_place bs) (sym (place_there is_line_feed bs h)) ∙ e in
-      let front : before_first is_line_feed bs ≡ line = cc in
-      let behind : after_first is_line_feed bs ≡ more = cc in
-      slice_split_first is_line_feed bs 0 h ∙ ap (λ l. l ∷ lines_of (after_first is_line_feed bs)) front ∙ ap (λ m. line ∷ lines_of m) behind
-  by_place (inr h) = let none : None ≡ Some (line, more) = ap (round_place bs) (sym (place_none is_line_feed bs h)) ∙ e in absurd cc
+    by_place : (position_or_len is_line_feed bs < length bs) ⊎ (length bs ≤ position_or_len is_line_feed bs) → lines_of bs ≡ line ∷ lines_of more
+    by_place (inl h) =
+        let halves = one_pair (round_place bs (position is_line_feed bs)) (before_first is_line_feed bs) (after_first is_line_feed bs) line more (ap (round_place bs) (place_there is_line_feed bs h)) e in
+        slice_split_first is_line_feed bs 0 h ∙ ap (λ l. l ∷ lines_of (after_first is_line_feed bs)) halves.0 ∙ ap (λ m. line ∷ lines_of m) halves.1
+    by_place (inr h) = absurd (no_pair (round_place bs (position is_line_feed bs)) line more (ap (round_place bs) (place_none is_line_feed bs h)) e)
 
 -- with no LF there is one line
 pub last_line : (bs : List ℕ) → cut 10 bs ≡ None → lines_of bs ≡ bs ∷ []
 unfolding cut
 last_line bs e = by_place (cases_lt (position_or_len is_line_feed bs) (length bs))
   where
-  by_place : (position_or_len is_line_feed bs < length bs) ⊎ (length bs ≤ position_or_len is_line_feed bs) → lines_of bs ≡ bs ∷ []
-  by_place (inl h) =
-      let halves : Some (before_first is_line_feed bs, after_first is_line_feed bs) ≡ None = ap (round_place bs) (sym (place_there is_line_feed bs h)) ∙ e in absurd cc
-  by_place (inr h) = slice_split_none is_line_feed bs (λ k d within. fails_before_first is_line_feed bs k d (omega (arith, h, within)))
+    by_place : (position_or_len is_line_feed bs < length bs) ⊎ (length bs ≤ position_or_len is_line_feed bs) → lines_of bs ≡ bs ∷ []
+    by_place (inl h) = absurd (no_pair (round_place bs (position is_line_feed bs)) (before_first is_line_feed bs) (after_first is_line_feed bs) e (ap (round_place bs) (place_there is_line_feed bs h)))
+    by_place (inr h) = slice_split_none is_line_feed bs (λ k d within. fails_before_first is_line_feed bs k d (omega (arith, h, within)))

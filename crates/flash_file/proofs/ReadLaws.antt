@@ -95,6 +95,10 @@ too_many d items bytes rest line more c leads at other flashes full =
     ap (λ o. o >>= few) (leads_on d (pads_of d (lines_of bytes)) items rest line more c leads at other flashes)
     ∙ none_few (items ++ pad d c ∷ []) (pads_of d (lines_of more)) (omega (arith, length-append items (pad d c ∷ []), full))
 
+-- room for one more
+pub fits_more : (n : ℕ) (items : List Painted) (x : Painted) → n ≡ length items → n ≤ 1000 → (n ≡ 1000 → ⊥) → length (items ++ x ∷ []) ≤ 1000
+fits_more n items x e few other = omega (arith, length-append items (x ∷ []), other)
+
 pub starts : (o : Option (List Painted)) → o ≡ behind [] o
 starts None = refl
 starts (Some others) = refl

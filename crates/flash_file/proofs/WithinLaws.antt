@@ -14,16 +14,16 @@ use Rattle.flash_file.specs.Flashes.{pad}
 low_of : (l a b : ℤ) → l ≤ℤ a → l ≤ℤ b → l ≤ℤ int_min a b
 low_of l a b ha hb = pick (int_lt b a)
   where
-  pick : (t : Bool) → l ≤ℤ cond t b a
-  pick true = hb
-  pick false = ha
+    pick : (t : Bool) → l ≤ℤ cond t b a
+    pick true = hb
+    pick false = ha
 
 high_of : (h a b : ℤ) → a ≤ℤ h → b ≤ℤ h → int_max a b ≤ℤ h
 high_of h a b ha hb = pick (int_lt b a)
   where
-  pick : (t : Bool) → cond t a b ≤ℤ h
-  pick true = ha
-  pick false = hb
+    pick : (t : Bool) → cond t a b ≤ℤ h
+    pick true = ha
+    pick false = hb
 
 -- two rectangles within the limit
 joined_within : (limit : ℤ) (a b : Option Bounds) → AreWithin limit a → AreWithin limit b → AreWithin limit (joined a b)

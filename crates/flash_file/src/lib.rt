@@ -8,3 +8,6 @@ mod reader;
 mod texts;
 
 pub use reader::{FlashError, read_flashes};
+
+#[cfg(test)]
+mod tests;

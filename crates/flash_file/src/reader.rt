@@ -1,5 +1,5 @@
 //! The reader of a layer's file.
-ghost use Rattle.std.specs.Prelude.{◌≡◌, ◌<◌, ◌≤◌, ◌++◌, ◌∷◌, [], ◌≤ℤ◌, length, MatchOption, MatchResult, IfOk, IfSome, IsErrOf, OnOk, OnErr, Some, None, pos, neg_ℤ};
+ghost use Rattle.std.specs.Prelude.{◌≡◌, ◌<◌, ◌≤◌, ◌++◌, ◌∷◌, [], ◌≤ℤ◌, length, MatchOption, IfOk, IfSome, IsErrOf, OnOk, OnErr, Some, None, pos, neg_ℤ};
 ghost use Rattle.board_base.specs.Places.{AreWithin};
 ghost use Rattle.copper_cover.specs.Kept.{dark_rectangle};
 ghost use Rattle.flash_file.specs.Texts.{lines_of};
@@ -82,7 +82,9 @@ fn push_pad(alloc: Global, pads: &mut Vec<Painted>, d: u32, c: Point) -> Result<
 // The pads, where there is one at least.
 fn some_pads(pads: Vec<Painted>) -> Result<Vec<Painted>, FlashError>
     requires { length pads.items ≤ 1000 }
-    ensures { MatchResult result (λ all. (all.items ≡ pads.items) × (few pads.items ≡ Some pads.items)) (λ e. (e ≡ FlashError.NotThisForm) × (few pads.items ≡ None)) }
+    ensures ok { IfOk result (λ all. few pads.items ≡ Some all.items) }
+    ensures err { OnErr result (few pads.items ≡ None) }
+    ensures same { IfOk result (λ all. all.items ≡ pads.items) }
 {
     if pads.is_empty() {
         return Err(FlashError::NotThisForm);

@@ -1,5 +1,5 @@
 -- The run of a program's lines makes its moves.
-use Rattle.std.proofs.Common.{◌≡◌, refl, ℕ, ◌+◌, ◌*◌, ℤ, pos, ◌*ℤ◌, List, [], ◌∷◌, ◌++◌, Bool, true, false, ◌&&◌, not, cond, Ok, Option, Some, None, inl, inr, ◌⊎◌, ap, sym, ◌∙◌, subst, arith, append_assoc, map}
+use Rattle.std.proofs.Common.{◌≡◌, refl, ℕ, ◌+◌, ◌*◌, ℤ, pos, ◌*ℤ◌, List, [], ◌∷◌, ◌++◌, Bool, true, false, ◌&&◌, not, cond, Ok, Some, None, inl, inr, ap, sym, ◌∙◌, subst, append_assoc, map}
 use Rattle.std.specs.List.{flat_map, All, AllByRecursion}
 use Rattle.std.specs.Ordering.{int_eq}
 use Rattle.std.proofs.lemmas.Bool.{false≢true}
@@ -17,11 +17,10 @@ use Rattle.mill_program.specs.declared.cuts.Corner.{Corner}
 use Rattle.mill_program.specs.declared.cuts.ToolRun.{ToolRun}
 use Rattle.mill_program.specs.declared.cuts.Program.{Program}
 use Rattle.board_base.specs.Places.{IsCoordinate}
-use Rattle.mill_program.specs.Conditions.{IsCorner, IsCut, IsFeed, IsToolRun, IsProgram, IsStep, AreSteps, IsRunnableCut, IsRunnable}
+use Rattle.mill_program.specs.Conditions.{IsCorner, IsCut, IsToolRun, IsProgram, IsStep, AreSteps, IsRunnableCut, IsRunnable}
 use Rattle.mill_program.specs.Lines.{words, mode_line, height_line, stop_line, tool_line, spindle_line, wait_line, over_line, plunge_line, stroke_line, end_line, is_straight, step_lines, cut_lines, run_lines, foot_lines, lines_of}
-use Rattle.mill_program.specs.Moves.{unnumbered, Spindle, turning_in, rapid, feeding, place_of, at_height, over, step_moves, last_of, cut_moves, after_cut, cuts_moves, after_cuts, runs_moves, moves_of}
-use Rattle.mill_program.specs.RunLaw.{RunLaw}
-use Rattle.mill_program.proofs.StepLaws.{at_rapid, at_feed, rapid_of, feed_of, to_height, to_place, to_depth, to_next_at, to_next, to_tool, to_speed, to_stop, to_wait, to_mode, whole_nanometres, reach, feed_passes, feed_value, some_feed, count_passes}
+use Rattle.mill_program.specs.Moves.{unnumbered, Spindle, turning_in, rapid, feeding, place_of, at_height, over, step_moves, last_of, cut_moves, cuts_moves, after_cuts, runs_moves, moves_of}
+use Rattle.mill_program.proofs.StepLaws.{at_rapid, rapid_of, feed_of, to_height, to_place, to_depth, to_next_at, to_next, to_tool, to_speed, to_stop, to_wait, to_mode, whole_nanometres, reach, feed_passes, feed_value, some_feed, count_passes}
 
 -- ---- where lines lead
 
@@ -171,11 +170,11 @@ one_cut safe run c cs p f n rest more s r h hs steps lead =
     let lines = (step_lines run true c cs ++ words (height_line safe) ∷ []) ++ rest in
     let moves = (step_moves run c cs ++ up ∷ []) ++ more in
     let strokes =
-        all_steps run c cs true run.plunge (n + 1 + 1) (words (height_line safe) ∷ rest) (up ∷ more) r hs tt steps
-        (λ k g. lift safe run (last_of c cs) k g rest more s (lead (k + 1) g)) in
+    all_steps run c cs true run.plunge (n + 1 + 1) (words (height_line safe) ∷ rest) (up ∷ more) r hs tt steps
+    (λ k g. lift safe run (last_of c cs) k g rest more s (lead (k + 1) g)) in
     let joined =
-        by_lines (n + 1 + 1) (running run (place_of c) run.plunge Feed) (step_lines run true c cs ++ words (height_line safe) ∷ rest) lines (step_moves run c cs ++ up ∷ more) moves
-        (sym (append_assoc (step_lines run true c cs) (words (height_line safe) ∷ []) rest)) (sym (append_assoc (step_moves run c cs) (up ∷ []) more)) strokes in
+    by_lines (n + 1 + 1) (running run (place_of c) run.plunge Feed) (step_lines run true c cs ++ words (height_line safe) ∷ rest) lines (step_moves run c cs ++ up ∷ more) moves
+    (sym (append_assoc (step_lines run true c cs) (words (height_line safe) ∷ []) rest)) (sym (append_assoc (step_moves run c cs) (up ∷ []) more)) strokes in
     go_over safe run p c f n (words (plunge_line run c) ∷ lines) (feeding run run.plunge (over safe c) (place_of c) ∷ moves) h
     (plunge run (over safe c) (place_of c) f Rapid c (n + 1) lines moves r h refl joined)
 
@@ -228,9 +227,9 @@ one_run : (safe change : ℤ) (run : ToolRun) (m : Machine) (n : ℕ) (rest : Li
     → AllByRecursion (IsRunnableCut safe) run.cuts → ((k : ℕ) (g : ℤ) → Leads k (running run (after_cuts safe (at_height safe m.at) run.cuts) g Rapid) rest more)
     → Leads n m (run_lines safe change run ++ rest)
     (
-      rapid (spindle_of m) m.at (at_height change m.at)
-      ∷ rapid (turning_in run) (at_height change m.at) (at_height safe m.at)
-      ∷ cuts_moves safe run (at_height safe m.at) run.cuts ++ more
+    rapid (spindle_of m) m.at (at_height change m.at)
+    ∷ rapid (turning_in run) (at_height change m.at) (at_height safe m.at)
+    ∷ cuts_moves safe run (at_height safe m.at) run.cuts ++ more
     )
 one_run safe change run m n rest more s h r w lead =
     let lines = flat_map (cut_lines safe run) run.cuts ++ rest in
@@ -270,6 +269,6 @@ pub run_moves : (p : Program) → IsProgram p → IsRunnable p → (moves : List
 unfolding run_of lines_of moves_of
 run_moves p h w =
     let lead =
-        by_none 0 start start mode_line (flat_map (run_lines p.safe p.change) p.runs ++ foot_lines p.change) (moves_of p) refl (to_mode 1 start)
-        (all_runs p.safe p.change p.runs start 1 h.safe h.change (recursion_from_All IsToolRun p.runs h.runs) (recursion_from_All (λ run. All (IsRunnableCut p.safe) run.cuts) p.runs w.cuts)) in
+    by_none 0 start start mode_line (flat_map (run_lines p.safe p.change) p.runs ++ foot_lines p.change) (moves_of p) refl (to_mode 1 start)
+    (all_runs p.safe p.change p.runs start 1 h.safe h.change (recursion_from_All IsToolRun p.runs h.runs) (recursion_from_All (λ run. All (IsRunnableCut p.safe) run.cuts) p.runs w.cuts)) in
     (lead.moves, lead.runs, lead.same)

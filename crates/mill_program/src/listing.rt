@@ -31,7 +31,12 @@ fn add_over(alloc: Global, lines: &mut Vec<Line>, to: Corner) -> Result<(), Allo
 }
 
 // Straight to a corner's height.
-fn add_plunge(alloc: Global, lines: &mut Vec<Line>, run: &ToolRun, to: Corner) -> Result<(), AllocError>
+fn add_plunge(
+    alloc: Global,
+    lines: &mut Vec<Line>,
+    run: &ToolRun,
+    to: Corner,
+) -> Result<(), AllocError>
     requires run { IsToolRun run.now }
     requires corner { IsCorner to }
     ensures { OnOk result (lines.new.items ≡ lines.old.items ++ words (plunge_line run.now to) ∷ []) }
@@ -42,7 +47,13 @@ fn add_plunge(alloc: Global, lines: &mut Vec<Line>, run: &ToolRun, to: Corner) -
 }
 
 // To a corner at the same height.
-fn add_stroke(alloc: Global, lines: &mut Vec<Line>, run: &ToolRun, plunged: bool, to: Corner) -> Result<(), AllocError>
+fn add_stroke(
+    alloc: Global,
+    lines: &mut Vec<Line>,
+    run: &ToolRun,
+    plunged: bool,
+    to: Corner,
+) -> Result<(), AllocError>
     requires run { IsToolRun run.now }
     requires corner { IsCorner to }
     ensures { OnOk result (lines.new.items ≡ lines.old.items ++ words (stroke_line run.now plunged to) ∷ []) }
@@ -65,7 +76,14 @@ fn is_straight(from: Corner, to: Corner) -> bool
 }
 
 // From one corner to the next.
-fn add_step(alloc: Global, lines: &mut Vec<Line>, run: &ToolRun, plunged: bool, from: Corner, to: Corner) -> Result<(), AllocError>
+fn add_step(
+    alloc: Global,
+    lines: &mut Vec<Line>,
+    run: &ToolRun,
+    plunged: bool,
+    from: Corner,
+    to: Corner,
+) -> Result<(), AllocError>
     requires run { IsToolRun run.now }
     requires corner { IsCorner to }
     ensures { OnOk result (lines.new.items ≡ lines.old.items ++ words (step_line run.now plunged from to) ∷ []) }
@@ -78,7 +96,13 @@ fn add_step(alloc: Global, lines: &mut Vec<Line>, run: &ToolRun, plunged: bool, 
 }
 
 // From the first corner to each of the others.
-fn add_steps(alloc: Global, lines: &mut Vec<Line>, run: &ToolRun, first: Corner, rest: &[Corner]) -> Result<(), AllocError>
+fn add_steps(
+    alloc: Global,
+    lines: &mut Vec<Line>,
+    run: &ToolRun,
+    first: Corner,
+    rest: &[Corner],
+) -> Result<(), AllocError>
     requires run { IsToolRun run.now }
     requires corners { All IsCorner rest.now }
     ensures { OnOk result (lines.new.items ≡ lines.old.items ++ step_lines run.now true first rest.now) }
@@ -94,7 +118,13 @@ fn add_steps(alloc: Global, lines: &mut Vec<Line>, run: &ToolRun, first: Corner,
 }
 
 // One cut, from above its first corner to above its last.
-fn add_cut(alloc: Global, lines: &mut Vec<Line>, p: &Program, run: &ToolRun, cut: &Cut) -> Result<(), AllocError>
+fn add_cut(
+    alloc: Global,
+    lines: &mut Vec<Line>,
+    p: &Program,
+    run: &ToolRun,
+    cut: &Cut,
+) -> Result<(), AllocError>
     requires program { IsProgram p.now }
     requires run { IsToolRun run.now }
     requires cut { IsCut cut.now }
@@ -106,17 +136,22 @@ fn add_cut(alloc: Global, lines: &mut Vec<Line>, p: &Program, run: &ToolRun, cut
     add_over(alloc, lines, *first)?;
     add_plunge(alloc, lines, run, *first)?;
     add_steps(alloc, lines, run, *first, rest)?;
-    add_height(alloc, lines, p.safe)?;
+    add_height(alloc, lines, p.safe)?; // up from the last corner
     Ok(())
 }
 
 // Up, and the change of the tool.
-fn add_change(alloc: Global, lines: &mut Vec<Line>, p: &Program, run: &ToolRun) -> Result<(), AllocError>
+fn add_change(
+    alloc: Global,
+    lines: &mut Vec<Line>,
+    p: &Program,
+    run: &ToolRun,
+) -> Result<(), AllocError>
     requires program { IsProgram p.now }
     requires run { IsToolRun run.now }
     ensures { OnOk result (lines.new.items ≡ lines.old.items ++ words (height_line p.now.change) ∷ words stop_line ∷ words (tool_line run.now) ∷ []) }
 {
-    add_height(alloc, lines, p.change)?;
+    add_height(alloc, lines, p.change)?; // up, clear of the board
     add_codes(alloc, lines, &[(b'M', 5)])?;
     let tool = code(b'T', run.tool);
     add(alloc, lines, &[tool, code(b'M', 6)])?;
@@ -124,7 +159,12 @@ fn add_change(alloc: Global, lines: &mut Vec<Line>, p: &Program, run: &ToolRun) 
 }
 
 // The spindle turns, and down.
-fn add_start(alloc: Global, lines: &mut Vec<Line>, p: &Program, run: &ToolRun) -> Result<(), AllocError>
+fn add_start(
+    alloc: Global,
+    lines: &mut Vec<Line>,
+    p: &Program,
+    run: &ToolRun,
+) -> Result<(), AllocError>
     requires program { IsProgram p.now }
     requires run { IsToolRun run.now }
     ensures { OnOk result (lines.new.items ≡ lines.old.items ++ words (spindle_line run.now) ∷ words wait_line ∷ words (height_line p.now.safe) ∷ []) }
@@ -137,7 +177,12 @@ fn add_start(alloc: Global, lines: &mut Vec<Line>, p: &Program, run: &ToolRun) -
 }
 
 // The cuts of a tool run.
-fn add_cuts(alloc: Global, lines: &mut Vec<Line>, p: &Program, run: &ToolRun) -> Result<(), AllocError>
+fn add_cuts(
+    alloc: Global,
+    lines: &mut Vec<Line>,
+    p: &Program,
+    run: &ToolRun,
+) -> Result<(), AllocError>
     requires program { IsProgram p.now }
     requires run { IsToolRun run.now }
     ensures { OnOk result (lines.new.items ≡ lines.old.items ++ flat_map (cut_lines p.now.safe run.now) run.now.cuts) }
@@ -149,7 +194,12 @@ fn add_cuts(alloc: Global, lines: &mut Vec<Line>, p: &Program, run: &ToolRun) ->
 }
 
 // One tool run.
-fn add_run(alloc: Global, lines: &mut Vec<Line>, p: &Program, run: &ToolRun) -> Result<(), AllocError>
+fn add_run(
+    alloc: Global,
+    lines: &mut Vec<Line>,
+    p: &Program,
+    run: &ToolRun,
+) -> Result<(), AllocError>
     requires program { IsProgram p.now }
     requires run { IsToolRun run.now }
     ensures { OnOk result (lines.new.items ≡ lines.old.items ++ run_lines p.now.safe p.now.change run.now) }

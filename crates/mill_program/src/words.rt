@@ -63,14 +63,15 @@ pub fn add(alloc: Global, lines: &mut Vec<Line>, words: &[Word]) -> Result<(), A
 fn coded(alloc: Global, codes: &[(u8, u16)]) -> Result<Vec<Word>, AllocError>
     ensures { IfOk result (λ words. words.items ≡ map (λ c. code_of c.0 c.1) codes.now) }
 {
-    codes
-        .iter()
-        .map(|c| code(c.0, c.1 as u32))
-        .collect(alloc)
+    codes.iter().map(|c| code(c.0, c.1 as u32)).collect(alloc)
 }
 
 /// Adds a line of whole numbers behind letters.
-pub fn add_codes(alloc: Global, lines: &mut Vec<Line>, codes: &[(u8, u16)]) -> Result<(), AllocError>
+pub fn add_codes(
+    alloc: Global,
+    lines: &mut Vec<Line>,
+    codes: &[(u8, u16)],
+) -> Result<(), AllocError>
     ensures { OnOk result (lines.new.items ≡ lines.old.items ++ record { words = map (λ c. code_of c.0 c.1) codes.now } ∷ []) }
 {
     let words = coded(alloc, codes)?;

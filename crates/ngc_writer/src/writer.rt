@@ -68,3 +68,6 @@ pub fn write_program(alloc: Global, lines: &Vec<Line>) -> Result<Vec<u8>, AllocE
     }
     Ok(bytes)
 }
+
+#[cfg(test)]
+mod tests;

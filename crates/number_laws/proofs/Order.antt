@@ -1,8 +1,8 @@
 -- the order of the whole numbers, and products
-use Rattle.std.proofs.Common.{◌≡◌, ℕ, zero, suc, ℤ, pos, negsuc, ◌+ℤ◌, ◌-ℤ◌, ◌*ℤ◌, ◌≤ℤ◌, ◌<ℤ◌, neg_ℤ, List, [], ◌∷◌, refl, sym, arith}
+use Rattle.std.proofs.Common.{◌≡◌, zero, suc, ℤ, pos, negsuc, ◌+ℤ◌, ◌-ℤ◌, ◌*ℤ◌, ◌≤ℤ◌, ◌<ℤ◌, [], ◌∷◌, refl, arith}
 use borrow.Author.Differences.{ints, sum_is_lem, le_out, lt_out, at_most_in, same_out}
 use Rattle.std.proofs.lemmas.Int.{by_lt_z}
-use Rattle.number_laws.proofs.Ring.{Ex, var, num, add, sub, mul, neg, ring}
+use Rattle.number_laws.proofs.Ring.{var, add, sub, mul, ring}
 
 pub mul_nonneg : (a b : ℤ) → pos 0 ≤ℤ a → pos 0 ≤ℤ b → pos 0 ≤ℤ (a *ℤ b)
 mul_nonneg (pos a) (pos b) h k = omega (arith, ints)

@@ -1,7 +1,6 @@
 -- a test for equations of polynomials: both sides are brought to one normal form
-use Rattle.std.proofs.Common.{◌≡◌, ℕ, zero, suc, ℤ, pos, negsuc, ◌+ℤ◌, ◌-ℤ◌, ◌*ℤ◌, neg_ℤ, Bool, true, false, cond, ◌&&◌, T, eqb, leb, ltb, List, [], ◌∷◌, refl, sym, ap, subst, ◌∙◌, arith}
-use borrow.Author.Differences.{ints}
-use lib.IntN.{+ℤ_assoc, +ℤ_comm, +ℤ_idl, +ℤ_idr, *ℤ_comm}
+use Rattle.std.proofs.Common.{◌≡◌, ℕ, zero, suc, ℤ, pos, negsuc, ◌+ℤ◌, ◌-ℤ◌, ◌*ℤ◌, neg_ℤ, Bool, true, false, cond, ◌&&◌, T, eqb, leb, ltb, List, [], ◌∷◌, refl, sym, ap, ◌∙◌}
+use lib.IntN.{+ℤ_assoc, +ℤ_idl, +ℤ_idr}
 use lib.Dec.{eqb→eq}
 use Rattle.number_laws.proofs.Laws.{mul_assoc, add_mul, mul_add, one_mul, mul_one, zero_mul, mul_zero, minus_one_mul, add_left_comm, mul_left_comm, mul_swap}
 

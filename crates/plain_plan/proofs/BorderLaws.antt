@@ -1,15 +1,15 @@
 -- The tests over the list of kept cells say what the contour is.
-use Rattle.std.proofs.Common.{◌≡◌, ◌↔◌, ℕ, zero, suc, ◌<◌, ◌*◌, ◌+◌, ◌≤◌, ℤ, pos, negsuc, neg_ℤ, ◌+ℤ◌, ◌-ℤ◌, ◌*ℤ◌, ◌≤ℤ◌, ◌<ℤ◌, int_lt, Bool, true, false, not, ◌&&◌, ◌⊎◌, inl, inr, List, [], ◌∷◌, length, refl, sym, ap, subst, ◌∙◌, arith, rules}
+use Rattle.std.proofs.Common.{◌≡◌, ◌↔◌, ℕ, zero, suc, ◌<◌, ◌*◌, ◌+◌, ◌≤◌, ℤ, pos, negsuc, neg_ℤ, ◌+ℤ◌, ◌-ℤ◌, ◌*ℤ◌, ◌≤ℤ◌, ◌<ℤ◌, int_lt, Bool, true, false, not, ◌&&◌, ◌⊎◌, inl, inr, List, [], ◌∷◌, refl, sym, ap, subst, ◌∙◌, arith}
 use Rattle.std.specs.List.{All, Contains, list_all}
 use Rattle.std.proofs.lemmas.Int.{by_lt_z}
 use Rattle.std.proofs.lemmas.List.Elements.{All-contains}
 use Rattle.std.proofs.lemmas.Nat.{mul-le}
 use borrow.Author.Differences.{ints}
-use Rattle.number_laws.proofs.Order.{square_nonneg, square_le, le_trans_ℤ}
-use Rattle.number_laws.proofs.Ring.{Ex, var, num, add, sub, mul, neg, ring}
+use Rattle.number_laws.proofs.Order.{square_nonneg}
+use Rattle.number_laws.proofs.Ring.{var, sub, mul, ring}
 use Rattle.board_base.specs.declared.places.Cell.{Cell}
 use Rattle.board_base.specs.declared.places.CellBox.{CellBox}
-use Rattle.board_base.specs.Lattice.{dist2, IsBeside, AreNeighbours}
+use Rattle.board_base.specs.Lattice.{dist2, IsBeside}
 use Rattle.board_base.specs.Contour.{IsAllowed, IsContour}
 use Rattle.plain_plan.specs.Rows.{IsInBox, ListsIn}
 use Rattle.plain_plan.specs.Plain.{is_clear, moved, are_three_clear, are_nine_clear, is_border, IsNearOne}

@@ -1,16 +1,16 @@
 -- The box of cells round what is dark has every kept cell.
-use Rattle.std.proofs.Common.{◌≡◌, ◌↔◌, ℕ, ◌≤◌, ℤ, pos, neg_ℤ, ◌+ℤ◌, ◌-ℤ◌, ◌*ℤ◌, ◌≤ℤ◌, ◌<ℤ◌, int_lt, Bool, true, false, cond, List, [], ◌∷◌, Option, Some, None, refl, sym, ap, subst, ◌∙◌, arith}
+use Rattle.std.proofs.Common.{◌≡◌, ◌↔◌, ℕ, ◌≤◌, ℤ, pos, neg_ℤ, ◌+ℤ◌, ◌-ℤ◌, ◌*ℤ◌, ◌≤ℤ◌, ◌<ℤ◌, int_lt, Bool, true, false, cond, List, [], ◌∷◌, Option, Some, None, refl, ap, subst, ◌∙◌, arith}
 use Rattle.std.specs.Int.{int_div_euclid, int_min, int_max}
 use Rattle.std.specs.List.{fold, Contains, All}
 use Rattle.std.proofs.lemmas.Int.{clamps}
 use borrow.Author.Differences.{ints}
-use Rattle.number_laws.proofs.Quotients.{rounded_low, rounded_high}
+use Rattle.number_laws.proofs.Quotients.{rounded_high}
 use Rattle.board_base.specs.declared.places.Point.{Point}
 use Rattle.board_base.specs.declared.places.Cell.{Cell}
 use Rattle.board_base.specs.declared.places.CellBox.{CellBox}
 use Rattle.board_base.specs.declared.places.Bounds.{Bounds}
 use Rattle.board_base.specs.Lattice.{IsPitch, half_of, middle, centre_of, half_diagonal_of}
-use Rattle.board_base.specs.Places.{IsNearPlace, IsNearCoordinate, IsWithin}
+use Rattle.board_base.specs.Places.{IsNearPlace, IsWithin}
 use Rattle.shape_parts.specs.declared.shape.Part.{Part}
 use Rattle.shape_parts.specs.declared.shape.Part.TheVariants.{Disc, Capsule}
 use Rattle.shape_parts.specs.declared.shape.Piece.{Piece}

@@ -1,12 +1,12 @@
 -- Columns and rows of coordinates.
-use Rattle.std.proofs.Common.{◌≡◌, ℕ, zero, suc, ◌<◌, ◌≤◌, ℤ, pos, negsuc, neg_ℤ, ◌+ℤ◌, ◌-ℤ◌, ◌*ℤ◌, ◌≤ℤ◌, ◌<ℤ◌, List, [], ◌∷◌, refl, sym, ap, ◌∙◌, arith}
+use Rattle.std.proofs.Common.{◌≡◌, ◌≤◌, ℤ, pos, neg_ℤ, ◌+ℤ◌, ◌-ℤ◌, ◌*ℤ◌, ◌≤ℤ◌, ◌<ℤ◌, [], ◌∷◌, refl, sym, ap, arith}
 use Rattle.std.specs.Prelude.{unsigned_abs}
 use Rattle.std.specs.Int.{int_div_euclid}
 use Rattle.std.proofs.lemmas.Int.{by_lt_z}
 use borrow.Author.Differences.{ints}
-use Rattle.number_laws.proofs.Order.{mul_le_left, mul_nonneg, mul_pos, cancel, le_trans_ℤ}
+use Rattle.number_laws.proofs.Order.{mul_le_left}
 use Rattle.number_laws.proofs.Quotients.{rounded_low, rounded_high}
-use Rattle.number_laws.proofs.Ring.{Ex, var, num, add, sub, mul, neg, ring}
+use Rattle.number_laws.proofs.Ring.{var, num, add, mul, ring}
 use Rattle.board_base.specs.Lattice.{half_of, middle}
 
 -- what a product of the lesser factor is past is past the greater one

@@ -1,5 +1,5 @@
 -- The contour by tests over the list of the kept cells.
-use Rattle.std.specs.Prelude.{◌≡◌, ℤ, pos, negsuc, ◌+ℤ◌, ◌≤ℤ◌, int_lt, Bool, true, not, ◌&&◌, List}
+use Rattle.std.specs.Prelude.{ℤ, pos, negsuc, ◌+ℤ◌, ◌≤ℤ◌, int_lt, Bool, not, ◌&&◌, List}
 use Rattle.std.specs.List.{Contains, list_all}
 use Rattle.board_base.specs.declared.places.Cell.{Cell}
 use Rattle.board_base.specs.Lattice.{dist2, IsBeside}

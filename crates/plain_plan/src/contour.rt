@@ -174,11 +174,7 @@ fn frame_of(kept: &Vec<Cell>, guard: u64) -> Option<CellBox>
 
 /// The contour of the cells that are farther than `guard`, a squared distance in cells, from every
 /// kept cell: those of them that have a neighbour which isn't. In order of rows.
-pub fn contour_cells(
-    alloc: Global,
-    kept: &Vec<Cell>,
-    guard: u64,
-) -> Result<Vec<Cell>, AllocError>
+pub fn contour_cells(alloc: Global, kept: &Vec<Cell>, guard: u64) -> Result<Vec<Cell>, AllocError>
     requires kept { All (IsIndexed 1000000) kept.now.items }
     requires guard { guard ≤ 100000000 }
     ensures lists { IfOk result (λ cells. (keeps : Cell → Bool) → ((c : Cell) → Contains kept.now.items c ↔ (keeps c ≡ true)) → (c : Cell) → Contains cells.items c ↔ IsContour keeps (pos guard) c) }

@@ -42,7 +42,12 @@ pub fn box_round(cells: &Vec<Cell>) -> Option<CellBox>
     let Some(first) = cells.first() else {
         return None;
     };
-    let mut b = CellBox { i0: first.i, j0: first.j, i1: first.i, j1: first.j };
+    let mut b = CellBox {
+        i0: first.i,
+        j0: first.j,
+        i1: first.i,
+        j1: first.j,
+    };
     'cells: for c in cells {
         b = hull(b, *c);
     }

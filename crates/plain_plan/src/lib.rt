@@ -6,6 +6,8 @@
 mod contour;
 mod frame;
 mod kept;
+#[cfg(test)]
+mod tests;
 
 pub use contour::contour_cells;
 pub use kept::kept_cells;

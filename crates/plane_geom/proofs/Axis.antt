@@ -1,7 +1,7 @@
 -- What is near a segment with d is at most half of d outside its ends, on each axis.
-use Rattle.std.proofs.Common.{◌≡◌, ℤ, pos, ◌+ℤ◌, ◌-ℤ◌, ◌*ℤ◌, ◌≤ℤ◌, ◌<ℤ◌, Bool, true, List, [], ◌∷◌, refl, subst, arith}
+use Rattle.std.proofs.Common.{◌≡◌, ℤ, pos, ◌+ℤ◌, ◌-ℤ◌, ◌*ℤ◌, ◌≤ℤ◌, ◌<ℤ◌, true, [], ◌∷◌, refl, subst, arith}
 use borrow.Author.Differences.{ints}
-use Rattle.number_laws.proofs.Ring.{Ex, var, num, add, sub, mul, ring}
+use Rattle.number_laws.proofs.Ring.{var, num, add, sub, mul, ring}
 use Rattle.number_laws.proofs.Order.{mul_nonneg, le_by, sub_nonneg, add_nonneg, square_nonneg, square_le, cancel}
 use Rattle.board_base.specs.declared.places.Point.{Point}
 use Rattle.board_base.specs.Near.{near_of, near_vec, from_to}

@@ -1,3 +1,4 @@
 pub mod Segment
 pub mod NearLaws
 pub mod Axis
+pub mod ReachLaws

@@ -1,11 +1,11 @@
 -- The test of the distance says whether some point of the segment is within half of d.
-use Rattle.std.proofs.Common.{◌≡◌, ℕ, zero, suc, ℤ, pos, negsuc, ◌+ℤ◌, ◌-ℤ◌, ◌*ℤ◌, ◌≤ℤ◌, ◌<ℤ◌, neg_ℤ, int_le, Bool, true, false, cond, refl, sym, ap, ◌∙◌, arith}
-use borrow.Author.Differences.{ints, lt_out, at_most_in, le_out}
+use Rattle.std.proofs.Common.{◌≡◌, zero, suc, ℤ, pos, negsuc, ◌+ℤ◌, ◌-ℤ◌, ◌*ℤ◌, ◌≤ℤ◌, ◌<ℤ◌, int_le, Bool, true, false, cond, refl, arith}
+use borrow.Author.Differences.{ints, lt_out, at_most_in}
 use Rattle.number_laws.proofs.Tests.{to_le, to_lt, of_le}
 use Rattle.board_base.specs.declared.places.Point.{Point}
 use Rattle.board_base.specs.Near.{near_of, near_vec, is_short, is_beside, fits_four_times, square, area_by, dot, cross, from_to}
 use Rattle.plane_geom.specs.NearStep.{NearStep}
-use Rattle.plane_geom.proofs.Segment.{IsReached, start_reached, end_reached, side_reached, start_near, end_near, side_near, reached_step, len, inner, turn, grown}
+use Rattle.plane_geom.proofs.Segment.{IsReached, start_reached, end_reached, side_reached, start_near, end_near, side_near, reached_step, len, inner, grown}
 
 weak : (a b : ℤ) → a <ℤ b → a ≤ℤ b
 weak a b h = omega (arith, lt_out, at_most_in)

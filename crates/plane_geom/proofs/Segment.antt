@@ -1,8 +1,8 @@
 -- near a segment is: some point of it, at the part m / n of the way, is within half of d
-use Rattle.std.proofs.Common.{◌≡◌, ℕ, zero, suc, ℤ, pos, negsuc, ◌+ℤ◌, ◌-ℤ◌, ◌*ℤ◌, ◌≤ℤ◌, ◌<ℤ◌, neg_ℤ, int_le, Bool, true, false, cond, List, [], ◌∷◌, refl, sym, ap, subst, ◌∙◌, arith}
-use borrow.Author.Differences.{ints, sum_is_lem, le_out, lt_out, at_most_in, same_out}
-use Rattle.number_laws.proofs.Ring.{Ex, var, num, add, sub, mul, neg, ring}
-use Rattle.number_laws.proofs.Order.{mul_nonneg, mul_pos, square_nonneg, le_by, sub_nonneg, add_nonneg, mul_le_left, cancel, square_le, le_trans_ℤ}
+use Rattle.std.proofs.Common.{◌≡◌, ℕ, ℤ, pos, ◌+ℤ◌, ◌-ℤ◌, ◌*ℤ◌, ◌≤ℤ◌, ◌<ℤ◌, [], ◌∷◌, refl, arith}
+use borrow.Author.Differences.{ints, lt_out, at_most_in}
+use Rattle.number_laws.proofs.Ring.{Ex, var, num, add, sub, mul, ring}
+use Rattle.number_laws.proofs.Order.{mul_nonneg, mul_pos, square_nonneg, le_by, sub_nonneg, add_nonneg, mul_le_left, cancel, square_le}
 
 abbrev sq : Ex → Ex
 sq a = mul a a

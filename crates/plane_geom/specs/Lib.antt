@@ -1,1 +1,2 @@
 pub mod NearStep
+pub mod Reach

@@ -1,6 +1,6 @@
-//! Which points are near a segment, in whole nanometres, and the law of a step. The definition of
-//! `near` stands in board_base (specs/Near), and no file here may repeat it; proofs/Segment and
-//! proofs/NearLaws are for the crates above.
+//! Which points and cells are near a segment, in whole nanometres, and the law of a step. The
+//! definition of near stands in board_base (specs/Near), and no file here may repeat it;
+//! proofs/Segment, proofs/NearLaws and proofs/Axis are for the crates above.
 #![tactic(auto)]
 
 ghost use Rattle.std.specs.Prelude.{◌≡◌, ℤ, ℕ, pos, ◌≤ℤ◌, ◌-ℤ◌, ◌+ℤ◌, ◌*ℤ◌, ◌<◌, ◌≤◌, ◌*◌, ◌+◌, ◌^◌, unsigned_abs, int_le};
@@ -8,7 +8,10 @@ ghost use Rattle.board_base.specs.Places.{IsNearPlace, IsNearCoordinate};
 ghost use Rattle.board_base.specs.Near.{near_of, near_vec, dot as dot_of, cross as cross_of, square, area_by, fits_four_times, is_short as is_short_of, is_beside as is_beside_of, from_to};
 ghost use Rattle.plane_geom.specs.NearStep.{NearStep};
 
+mod cells;
+
 use board_base::Point;
+pub use cells::reach;
 
 // The product, where it fits.
 fn times(a: i128, b: i128) -> i128
@@ -205,6 +208,7 @@ pub fn near_step_law()
 #[cfg(test)]
 mod tests {
     use super::*;
+    use board_base::CellBox;
 
     // The place (x, y).
     fn at(x: i16, y: i16) -> Point
@@ -239,6 +243,20 @@ mod tests {
         // A segment of one point.
         for (d, want) in [(9_u16, false), (10, true), (11, true)] {
             assert_eq!(rt; near(at(3, -4), a, a, d as i64), want, "a point with {d}");
+        }
+    }
+
+    #[test]
+    fn finds_the_cells_round_a_segment(rt: HostRuntime) {
+        let (a, b) = (at(0, 0), Point { x: 1000000, y: 0 });
+        // The middles are 100000 past the multiples of 200000.
+        for (d, i0, j0, i1, j1) in [
+            (400000_u32, -1, -1, 5, 0),
+            (200000, -1, -1, 5, 0),
+            (199999, 0, 0, 4, -1),
+        ] {
+            let want = CellBox { i0, j0, i1, j1 };
+            assert_eq!(rt; reach(a, b, d as i64, 200000), want, "with {d}");
         }
     }
 }

@@ -1,5 +1,5 @@
 -- Small programs and their runs, worked out by hand.
-use Rattle.std.proofs.Common.{◌≡◌, refl, ℕ, ◌*◌, ℤ, pos, negsuc, Bool, true, false, List, [], ◌∷◌, Ok, Err}
+use Rattle.std.proofs.Common.{◌≡◌, refl, ℕ, ◌*◌, pos, negsuc, Bool, true, false, List, [], ◌∷◌, Ok, Err}
 use Rattle.board_base.specs.declared.places.Pos.{Pos}
 use Rattle.board_base.specs.declared.places.Move.{Move}
 use Rattle.board_base.specs.declared.places.MoveKind.{MoveKind}
@@ -27,23 +27,23 @@ move from to kind turning speed feed tool line = record { from = from; to = to; 
 
 -- a tool change, a plunge and a step at the feed in force; lines that make no move count
 a_run : run_of (
-  line (word G 0 ∷ word Z 10000 ∷ [])
-  ∷ line (word T 1000 ∷ word M 6000 ∷ [])
-  ∷ line (word S 10000000 ∷ word M 3000 ∷ [])
-  ∷ line (word G 4000 ∷ word P 1000 ∷ [])
-  ∷ line (word G 0 ∷ word X 300 ∷ word Y 400 ∷ [])
-  ∷ line (word G 1000 ∷ word Z 2000 ∷ word F 100000 ∷ [])
-  ∷ line (word X 500 ∷ [])
-  ∷ line (word G 80000 ∷ [])
-  ∷ line (word M 5000 ∷ [])
-  ∷ line (word G 0 ∷ word Z 10000 ∷ []) ∷ end ∷ [])
-  ≡ Ok (
-  move (place 0 0 0) (place 0 0 10000) Rapid false 0 0 0 1
-  ∷ move (place 0 0 10000) (place 300 400 10000) Rapid true 10000 0 1 5
-  ∷ move (place 300 400 10000) (place 300 400 2000) Feed true 10000 100000 1 6
-  ∷ move (place 300 400 2000) (place 500 400 2000) Feed true 10000 100000 1 7
-  ∷ move (place 500 400 2000) (place 500 400 10000) Rapid false 10000 100000 1 10
-  ∷ [])
+    line (word G 0 ∷ word Z 10000 ∷ [])
+    ∷ line (word T 1000 ∷ word M 6000 ∷ [])
+    ∷ line (word S 10000000 ∷ word M 3000 ∷ [])
+    ∷ line (word G 4000 ∷ word P 1000 ∷ [])
+    ∷ line (word G 0 ∷ word X 300 ∷ word Y 400 ∷ [])
+    ∷ line (word G 1000 ∷ word Z 2000 ∷ word F 100000 ∷ [])
+    ∷ line (word X 500 ∷ [])
+    ∷ line (word G 80000 ∷ [])
+    ∷ line (word M 5000 ∷ [])
+    ∷ line (word G 0 ∷ word Z 10000 ∷ []) ∷ end ∷ [])
+    ≡ Ok (
+    move (place 0 0 0) (place 0 0 10000) Rapid false 0 0 0 1
+    ∷ move (place 0 0 10000) (place 300 400 10000) Rapid true 10000 0 1 5
+    ∷ move (place 300 400 10000) (place 300 400 2000) Feed true 10000 100000 1 6
+    ∷ move (place 300 400 2000) (place 500 400 2000) Feed true 10000 100000 1 7
+    ∷ move (place 500 400 2000) (place 500 400 10000) Rapid false 10000 100000 1 10
+    ∷ [])
 unfolding run_of
 a_run = refl
 

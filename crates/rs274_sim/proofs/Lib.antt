@@ -1,3 +1,4 @@
 pub mod OneReading
 pub mod TextLaws
+pub mod ShortLines
 pub mod Examples

@@ -1,16 +1,15 @@
 -- Bytes stand for at most one list of lines.
-use Rattle.std.proofs.Common.{◌≡◌, ◌≢◌, refl, ℕ, suc, ◌+◌, ◌-◌, ◌*◌, ◌<◌, ◌≤◌, ◌^◌, ℤ, pos, List, [], ◌∷◌, ◌++◌, Option, Some, None, length, ap, sym, ◌∙◌, subst, arith, rules, inl, inr, ◌⊎◌, append_assoc, unwrap_or}
+use Rattle.std.proofs.Common.{◌≡◌, refl, ℕ, ◌+◌, ◌<◌, ◌≤◌, List, [], ◌∷◌, ◌++◌, Option, Some, None, length, ap, sym, ◌∙◌, subst, arith, inl, inr, append_assoc, unwrap_or}
 use Rattle.std.specs.List.{AllByRecursion}
-use Rattle.std.specs.Str.Parse.{AllDigits, digits_value}
+use Rattle.std.specs.Str.Parse.{AllDigits}
 use Rattle.std.proofs.lemmas.Str.Parse.{digit_from_value}
 use Rattle.rs274_sim.specs.declared.line.Word.{Word}
-use Rattle.rs274_sim.specs.declared.line.Value.{Value}
 use Rattle.rs274_sim.specs.declared.line.Value.TheVariants.{Num}
 use Rattle.std.specs.List.{AllZip}
 use Rattle.std.specs.Str.Lines.{lines}
 use Rattle.fixed_num.specs.Decimal.{Sign, none, plus, minus, sign_text, Decimal, IsDecimal, decimal_text, value_at, point_text}
 use Rattle.rs274_sim.specs.declared.line.Line.{Line}
-use Rattle.rs274_sim.specs.Text.{IsNumber, IsLetter, SpellsWord, SpellsWords, StandsForLine, StandsFor, unblanked}
+use Rattle.rs274_sim.specs.Text.{IsLetter, SpellsWord, SpellsWords, StandsForLine, StandsFor, unblanked}
 
 -- nothing, or a first byte that has Q
 abbrev Begins : (ℕ → Type 0) → List ℕ → Type 0

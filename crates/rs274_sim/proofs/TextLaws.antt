@@ -1,9 +1,9 @@
 -- What is written stands for the lines that it was written from.
-use Rattle.std.proofs.Common.{◌≡◌, ◌≢◌, refl, ℕ, suc, ◌+◌, ◌-◌, ◌*◌, ◌/◌, ◌%◌, ◌^◌, ◌<◌, ◌≤◌, ℤ, pos, negsuc, neg_ℤ, ◌*ℤ◌, List, [], ◌∷◌, ◌++◌, Bool, true, false, not, cond, Option, Some, None, length, map, ap, sym, ◌∙◌, subst, arith, rules, inl, inr, ◌⊎◌, append_assoc, nat_lt, eqb, decimal, MatchBool}
+use Rattle.std.proofs.Common.{◌≡◌, ◌≢◌, refl, ℕ, suc, ◌+◌, ◌-◌, ◌*◌, ◌/◌, ◌%◌, ◌^◌, ◌<◌, ◌≤◌, ℤ, pos, negsuc, neg_ℤ, ◌*ℤ◌, List, [], ◌∷◌, ◌++◌, Bool, true, false, not, cond, Some, None, length, map, ap, sym, ◌∙◌, subst, arith, inl, append_assoc, eqb, decimal, MatchBool}
 use Rattle.std.specs.Prelude.{unsigned_abs, int_div, int_rem, ◌+ℤ◌}
-use Rattle.std.specs.List.{flat_map, join_with_byte, AllByRecursion, All, AllZip, slice_split, filter}
+use Rattle.std.specs.List.{flat_map, join_with_byte, AllByRecursion, All, AllZip, slice_split}
 use Rattle.std.specs.Char.{digit_value}
-use Rattle.std.specs.Str.Parse.{AllDigits, digits_value, digits_value_after, IsNumeral}
+use Rattle.std.specs.Str.Parse.{AllDigits, digits_value, digits_value_after}
 use Rattle.std.proofs.lemmas.Int.{ints, quot-rem, rem_below}
 use Rattle.std.proofs.Math.Nat.{mul-div_cancel}
 use Rattle.std.proofs.lemmas.Str.{digit_value_digit}
@@ -17,9 +17,8 @@ use Rattle.std.specs.Str.Lines.{lines, lines_of_parts, strip_carriage_return}
 use Rattle.std.proofs.Common.{get_or, take, zero, ◌==◌}
 use Rattle.rs274_sim.specs.declared.line.Word.{Word}
 use Rattle.rs274_sim.specs.declared.line.Line.{Line}
-use Rattle.rs274_sim.specs.declared.line.Value.{Value}
 use Rattle.rs274_sim.specs.declared.line.Value.TheVariants.{Num}
-use Rattle.fixed_num.specs.Decimal.{Sign, none, plus, minus, sign_text, signed, Decimal, IsDecimal, decimal_text, value_at, EndsBy, fraction_of}
+use Rattle.fixed_num.specs.Decimal.{Sign, none, minus, signed, Decimal, IsDecimal, decimal_text, value_at}
 use Rattle.fixed_num.specs.Fixed.{digit, six_digits, sign, fixed6}
 use Rattle.rs274_sim.specs.Text.{IsNumber, SpellsWord, SpellsWords, StandsForLine, StandsFor, unblanked, is_blank}
 use Rattle.rs274_sim.specs.Machine.{number, whole_part, one}

@@ -1,5 +1,5 @@
 -- The one spelling of a line that is written.
-use Rattle.std.specs.Prelude.{◌≡◌, ◌≢◌, ℕ, ◌*◌, ◌/◌, ◌≤◌, ℤ, pos, ◌*ℤ◌, unsigned_abs, int_div, Bool, ◌||◌, List, [], ◌∷◌, ◌++◌, length, if◌then◌else◌, decimal, map, MatchBool}
+use Rattle.std.specs.Prelude.{◌≡◌, ◌≢◌, ℕ, ◌*◌, ◌≤◌, ℤ, pos, ◌*ℤ◌, unsigned_abs, int_div, Bool, ◌||◌, List, [], ◌∷◌, ◌++◌, length, if◌then◌else◌, decimal, map, MatchBool}
 use Rattle.std.specs.List.{All, flat_map, join_with_byte}
 use Rattle.fixed_num.specs.Fixed.{fixed6}
 use Rattle.rs274_sim.specs.declared.line.Word.{Word}

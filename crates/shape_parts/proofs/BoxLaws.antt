@@ -1,22 +1,18 @@
 -- What a shape touches lies in its rectangle.
-use Rattle.std.proofs.Common.{◌≡◌, ℕ, zero, suc, ℤ, pos, negsuc, ◌+ℤ◌, ◌-ℤ◌, ◌*ℤ◌, ◌≤ℤ◌, ◌<ℤ◌, int_lt, int_le, Bool, true, false, not, cond, ◌&&◌, ◌||◌, List, [], ◌∷◌, ◌++◌, Option, Some, None, refl, sym, ap, subst, ◌∙◌, arith}
-use Rattle.std.proofs.lemmas.Int.{by_lt_z}
-use Rattle.std.specs.List.{fold, list_any, AllByRecursion}
-use Rattle.std.specs.Int.{int_div_euclid, int_min, int_max}
-use borrow.Author.Differences.{ints, sum_is_lem, le_out, lt_out, at_most_in, below_in, same_out}
-use Rattle.number_laws.proofs.Ring.{Ex, var, num, add, sub, mul, neg, ring}
-use Rattle.number_laws.proofs.Order.{mul_nonneg, mul_pos, le_by, sub_nonneg, add_nonneg, square_nonneg, square_le, cancel}
+use Rattle.std.proofs.Common.{◌≡◌, ℤ, pos, negsuc, ◌+ℤ◌, ◌-ℤ◌, ◌*ℤ◌, ◌≤ℤ◌, int_lt, Bool, true, false, not, cond, ◌&&◌, List, [], ◌∷◌, Option, Some, None, refl, arith}
+use Rattle.std.specs.List.{fold, list_any}
+use Rattle.std.specs.Int.{int_min, int_max}
+use borrow.Author.Differences.{ints}
 use Rattle.board_base.specs.declared.places.Point.{Point}
-use Rattle.board_base.specs.Near.{near_of, near_vec, from_to}
+use Rattle.board_base.specs.Near.{near_of}
 use Rattle.plane_geom.proofs.Axis.{reached_of, axis_low, axis_high, first_part, second_part}
 use Rattle.board_base.specs.declared.places.Bounds.{Bounds}
 use Rattle.shape_parts.specs.declared.shape.Part.{Part}
 use Rattle.shape_parts.specs.declared.shape.Part.TheVariants.{Disc, Capsule}
 use Rattle.shape_parts.specs.declared.shape.Piece.{Piece}
-use Rattle.shape_parts.specs.Stands.{stands}
-use Rattle.shape_parts.specs.Parts.{twice, grown, part_touches, part_covers}
+use Rattle.shape_parts.specs.Parts.{grown, part_touches, part_covers}
 use Rattle.shape_parts.specs.Shapes.{shape_touches}
-use Rattle.shape_parts.specs.Boxes.{half_up, around, hull, widened, part_box, piece_box, shape_box}
+use Rattle.shape_parts.specs.Boxes.{half_up, around, hull, widened, part_box, piece_box}
 use Rattle.shape_parts.specs.BoxLaw.{HasSquare, Has, BoxLaw}
 use Rattle.shape_parts.proofs.Standing.{first_true, second_true, either}
 

@@ -1,9 +1,9 @@
 -- the half diagonal of a pitch is one number
-use Rattle.std.proofs.Common.{◌≡◌, ℤ, pos, ◌+ℤ◌, ◌-ℤ◌, ◌*ℤ◌, ◌≤ℤ◌, ◌<ℤ◌, List, [], ◌∷◌, refl, sym, ap, ◌∙◌, arith}
+use Rattle.std.proofs.Common.{◌≡◌, ℤ, pos, ◌-ℤ◌, ◌*ℤ◌, ◌≤ℤ◌, ◌<ℤ◌, [], ◌∷◌, refl, arith}
 use Rattle.std.proofs.lemmas.Int.{by_lt_z}
-use borrow.Author.Differences.{ints, le_out, lt_out, at_most_in, below_in}
-use Rattle.number_laws.proofs.Order.{square_le, mul_nonneg, mul_le_left, le_trans_ℤ}
-use Rattle.number_laws.proofs.Ring.{Ex, var, mul, ring}
+use borrow.Author.Differences.{ints}
+use Rattle.number_laws.proofs.Order.{mul_le_left, le_trans_ℤ}
+use Rattle.number_laws.proofs.Ring.{var, mul, ring}
 use Rattle.board_base.specs.declared.places.Point.{Point}
 use Rattle.board_base.specs.Lattice.{IsHalfDiagonal}
 

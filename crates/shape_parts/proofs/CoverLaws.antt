@@ -1,20 +1,17 @@
 -- every dark point lies in a kept cell
-use Rattle.std.proofs.Common.{◌≡◌, ℕ, zero, suc, ◌<◌, ℤ, pos, negsuc, ◌+ℤ◌, ◌-ℤ◌, ◌*ℤ◌, ◌≤ℤ◌, ◌<ℤ◌, Bool, true, false, not, ◌&&◌, List, [], ◌∷◌, refl, sym, ap, ◌∙◌, arith}
+use Rattle.std.proofs.Common.{◌≡◌, ℤ, pos, ◌+ℤ◌, ◌-ℤ◌, ◌*ℤ◌, ◌≤ℤ◌, ◌<ℤ◌, Bool, true, not, ◌&&◌, List, [], ◌∷◌, refl, sym, ap, ◌∙◌, arith}
 use Rattle.std.specs.Int.{int_div_euclid}
-use borrow.Author.Differences.{ints, sum_is_lem, le_out, lt_out, at_most_in, below_in, same_out}
-use Rattle.number_laws.proofs.Ring.{Ex, var, num, add, sub, mul, neg, ring}
-use Rattle.number_laws.proofs.Order.{mul_nonneg, le_by, sub_nonneg, cancel}
+use borrow.Author.Differences.{ints}
+use Rattle.number_laws.proofs.Ring.{var, num, mul, ring}
 use Rattle.board_base.specs.declared.places.Point.{Point}
 use Rattle.number_laws.proofs.Quotients.{rounded_low, rounded_high}
-use Rattle.board_base.specs.declared.places.Cell.{Cell}
 use Rattle.shape_parts.specs.declared.shape.Piece.{Piece}
 use Rattle.shape_parts.specs.declared.shape.Painted.{Painted}
-use Rattle.shape_parts.specs.Stands.{stands}
 use Rattle.board_base.specs.Lattice.{half_of, middle, centre_of, cell_of, IsPitch, IsHalfDiagonal}
 use Rattle.shape_parts.specs.Parts.{part_holds, part_touches, part_covers}
 use Rattle.shape_parts.specs.Shapes.{shape_holds, shape_touches, shape_covers}
 use Rattle.shape_parts.specs.Cover.{is_dark, is_kept, CoverLaw}
-use Rattle.shape_parts.proofs.Standing.{IsWithin, both_true, first_true, second_true, stands_more}
+use Rattle.shape_parts.proofs.Standing.{both_true, first_true, second_true, stands_more}
 use Rattle.shape_parts.proofs.PartLaws.{IsReach, part_touched, part_covered}
 
 -- a test by a mark: what passes it passes the other

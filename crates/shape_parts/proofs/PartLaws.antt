@@ -1,8 +1,8 @@
 -- a part that holds a point of a cell touches the cell, and a part that covers a cell holds its points
-use Rattle.std.proofs.Common.{◌≡◌, ℕ, zero, suc, ℤ, pos, negsuc, ◌+ℤ◌, ◌-ℤ◌, ◌*ℤ◌, ◌≤ℤ◌, ◌<ℤ◌, int_lt, int_le, Bool, true, false, not, cond, ◌&&◌, ◌||◌, List, [], ◌∷◌, refl, sym, ap, subst, ◌∙◌, arith}
-use borrow.Author.Differences.{ints, sum_is_lem, le_out, lt_out, at_most_in, below_in, same_out}
-use Rattle.number_laws.proofs.Ring.{Ex, var, num, add, sub, mul, neg, ring}
-use Rattle.number_laws.proofs.Order.{mul_nonneg, le_by, sub_nonneg, add_nonneg, square_nonneg, mul_le_left}
+use Rattle.std.proofs.Common.{◌≡◌, ℤ, pos, ◌+ℤ◌, ◌-ℤ◌, ◌*ℤ◌, ◌≤ℤ◌, int_lt, true, [], ◌∷◌, refl, sym, subst, arith}
+use borrow.Author.Differences.{ints}
+use Rattle.number_laws.proofs.Ring.{Ex, var, add, sub, mul, ring}
+use Rattle.number_laws.proofs.Order.{mul_nonneg, le_by}
 use Rattle.board_base.specs.declared.places.Point.{Point}
 use Rattle.board_base.specs.Near.{near_of}
 use Rattle.plane_geom.specs.NearStep.{length2}
@@ -10,7 +10,7 @@ use Rattle.plane_geom.proofs.NearLaws.{near_step}
 use Rattle.shape_parts.specs.declared.shape.Part.{Part}
 use Rattle.shape_parts.specs.declared.shape.Part.TheVariants.{Disc, Capsule}
 use Rattle.shape_parts.specs.Parts.{twice, grown, shrunk, part_holds, part_touches, part_covers}
-use Rattle.shape_parts.proofs.Standing.{both_true, first_true, second_true, left_true, right_true, either}
+use Rattle.shape_parts.proofs.Standing.{both_true, first_true, second_true}
 
 abbrev sq : Ex → Ex
 sq a = mul a a

@@ -1,5 +1,5 @@
 -- The rectangle round a shape.
-use Rattle.std.specs.Prelude.{◌≡◌, ℤ, pos, ◌+ℤ◌, ◌-ℤ◌, int_lt, Bool, cond, List, Option, Some, None}
+use Rattle.std.specs.Prelude.{ℤ, pos, ◌+ℤ◌, ◌-ℤ◌, int_lt, cond, List, Option, Some, None}
 use Rattle.std.specs.List.{fold}
 use Rattle.std.specs.Int.{int_div_euclid, int_min, int_max}
 use Rattle.board_base.specs.declared.places.Point.{Point}

@@ -1,7 +1,6 @@
 -- Which points are dark, and which cells are kept for them.
 use Rattle.std.specs.Prelude.{◌≡◌, ℤ, Bool, true, not, ◌&&◌, List}
 use Rattle.board_base.specs.declared.places.Point.{Point}
-use Rattle.board_base.specs.declared.places.Cell.{Cell}
 use Rattle.shape_parts.specs.declared.shape.Painted.{Painted}
 use Rattle.shape_parts.specs.Stands.{stands}
 use Rattle.board_base.specs.Lattice.{centre_of, cell_of, IsPitch, IsHalfDiagonal}

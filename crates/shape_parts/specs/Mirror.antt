@@ -1,5 +1,5 @@
 -- The other side of the board.
-use Rattle.std.specs.Prelude.{neg_ℤ, List, map, ℤ}
+use Rattle.std.specs.Prelude.{neg_ℤ, map}
 use Rattle.board_base.specs.declared.places.Point.{Point}
 use Rattle.shape_parts.specs.declared.shape.Part.{Part}
 use Rattle.shape_parts.specs.declared.shape.Part.TheVariants.{Disc, Capsule}

@@ -1,6 +1,6 @@
 -- Which points and cells a part holds, touches and covers. A cell is named by its centre c and half its diagonal h.
 use Rattle.std.specs.List.{HoldsAt}
-use Rattle.std.specs.Prelude.{◌≡◌, ℕ, List, ℤ, pos, ◌+ℤ◌, ◌-ℤ◌, ◌*ℤ◌, ◌≤ℤ◌, int_lt, Bool, true, false, not, ◌&&◌, ◌||◌}
+use Rattle.std.specs.Prelude.{ℕ, List, ℤ, pos, ◌+ℤ◌, ◌-ℤ◌, ◌*ℤ◌, ◌≤ℤ◌, int_lt, Bool, ◌&&◌}
 use Rattle.board_base.specs.declared.places.Point.{Point}
 use Rattle.board_base.specs.Near.{near_of}
 use Rattle.board_base.specs.Places.{IsNearPlace}

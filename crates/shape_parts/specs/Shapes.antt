@@ -1,5 +1,5 @@
 -- Which points and cells a shape holds, touches and covers. A later part overrides the earlier ones.
-use Rattle.std.specs.Prelude.{◌≡◌, ℤ, Bool, not, ◌&&◌, List}
+use Rattle.std.specs.Prelude.{ℤ, Bool, not, ◌&&◌, List}
 use Rattle.board_base.specs.declared.places.Point.{Point}
 use Rattle.shape_parts.specs.declared.shape.Piece.{Piece}
 use Rattle.shape_parts.specs.Stands.{stands}

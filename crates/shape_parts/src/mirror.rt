@@ -52,7 +52,7 @@ pub(crate) fn mirrored_pieces(alloc: Global, pieces: &[Piece]) -> Result<Vec<Pie
     Ok(all)
 }
 
-/// The objects with every x negated.
+/// The objects with every x negated. It fails only without memory.
 pub fn mirror_x(alloc: Global, painted: &Vec<Painted>) -> Result<Vec<Painted>, AllocError>
     ensures { IfOk result (λ v. v.items ≡ map mirrored_object painted.now.items) }
 {

@@ -16,10 +16,12 @@ use board_base::{Bounds, Cell, Point, centre, half_diagonal};
 use std::alloc::{AllocError, Global};
 use std::marker::Model;
 
-/// A part of a shape.
+/// A part of a shape, in nanometres. A part of no width holds nothing.
 #[derive(Drop)]
 pub enum Part {
+    /// What is at most half of `d` from `c`.
     Disc { c: Point, d: i64 },
+    /// What is at most half of `d` from the segment `ab`.
     Capsule { a: Point, b: Point, d: i64 },
 }
 
@@ -30,7 +32,7 @@ pub struct Piece {
     pub on: bool,
 }
 
-/// Parts in their order.
+/// Parts in their order, of which a later one overrides the earlier ones.
 #[derive(Drop)]
 pub struct Shape {
     pieces: Vec<Piece>,
@@ -59,7 +61,7 @@ impl Shape {
         }
     }
 
-    /// Adds a part.
+    /// Adds a part after the others. Without memory it fails, and the shape stays as it was.
     pub fn push(&mut self, part: Part, on: bool) -> Result<(), AllocError>
         requires { IsPart part }
         ensures added { OnOk result (self.new ≡ self.old ++ record { part = part; on = on } ∷ []) }
@@ -69,7 +71,7 @@ impl Shape {
         Ok(())
     }
 
-    /// The number of parts.
+    /// The number of parts, on and off.
     pub fn len(&self) -> u32
         requires { length self.now < 2 ^ 32 }
         ensures { result ≡ length self.now }
@@ -101,7 +103,8 @@ impl Shape {
         holds_last(&self.pieces, q)
     }
 
-    /// Whether an on part touches the cell round `c`, and no later off part covers it.
+    /// Whether an on part touches the cell round `c`, whose half diagonal is `h`, and no later off part
+    /// covers it.
     pub fn touches_at(&self, c: Point, h: i64) -> bool
         requires c { IsNearPlace c }
         requires h_low { pos 0 <ℤ h }
@@ -111,7 +114,8 @@ impl Shape {
         touches_last(&self.pieces, c, h)
     }
 
-    /// Whether an on part covers the cell round `c`, and no later off part touches it.
+    /// Whether an on part covers the cell round `c`, whose half diagonal is `h`, and no later off part
+    /// touches it.
     pub fn covers_at(&self, c: Point, h: i64) -> bool
         requires c { IsNearPlace c }
         requires h_low { pos 0 <ℤ h }
@@ -121,7 +125,8 @@ impl Shape {
         covers_last(&self.pieces, c, h)
     }
 
-    /// Whether an on part touches the cell, and no later off part covers it.
+    /// Whether an on part touches the cell of a lattice, and no later off part covers it. The pitch is in
+    /// nanometres.
     pub fn touches(&self, c: Cell, pitch: i64) -> bool
         requires pitch { IsPitch pitch }
         requires centre { IsNearPlace (centre_of pitch c) }
@@ -131,7 +136,8 @@ impl Shape {
         self.touches_at(centre(c, pitch), half_diagonal(pitch))
     }
 
-    /// Whether an on part covers the cell, and no later off part touches it.
+    /// Whether an on part covers the cell of a lattice, and no later off part touches it. The pitch is in
+    /// nanometres.
     pub fn covers(&self, c: Cell, pitch: i64) -> bool
         requires pitch { IsPitch pitch }
         requires centre { IsNearPlace (centre_of pitch c) }
@@ -141,14 +147,14 @@ impl Shape {
         self.covers_at(centre(c, pitch), half_diagonal(pitch))
     }
 
-    /// The rectangle round all on parts.
+    /// The rectangle round all on parts, or none where no on part has a width.
     pub fn bounds(&self) -> Option<Bounds>
         ensures { result ≡ shape_box self.now }
     {
         box_round(&self.pieces)
     }
 
-    /// The shape with every x negated.
+    /// The shape with every x negated. It fails only without memory.
     pub fn mirrored(&self, alloc: Global) -> Result<Shape, AllocError>
         ensures { IfOk result (λ s. s ≡ map mirrored_piece self.now) }
     {

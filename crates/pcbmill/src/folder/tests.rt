@@ -3,6 +3,7 @@ use std::io;
 use std::test::Fail;
 
 // A reader that gives one piece, and then fails.
+#[derive(Drop)]
 struct Broken {
     reads: u32,
 }

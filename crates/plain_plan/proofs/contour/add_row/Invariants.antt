@@ -1,4 +1,4 @@
-use Rattle.std.proofs.Common.{◌≡◌, ℤ, pos, ◌≤ℤ◌}
+use Rattle.std.proofs.Common.{pos, ◌≤ℤ◌}
 use Rattle.plain_plan.specs.Rows.{IsListed}
 use Rattle.plain_plan.specs.Plain.{is_border}
 use Rattle.plain_plan.proofs.contour.add_row.Given as goal

@@ -1,5 +1,5 @@
-use Rattle.std.proofs.Common.{◌≡◌, pos, rules}
-use Rattle.plain_plan.proofs.BorderLaws.{listed_contour, listed_near, none_contour}
+use Rattle.std.proofs.Common.{pos}
+use Rattle.plain_plan.proofs.BorderLaws.{listed_contour, listed_near}
 use Rattle.plain_plan.proofs.contour.contour_cells.Goals as goal
 
 pub returns-clause-lists : goal.returns-clause-lists

@@ -1,10 +1,10 @@
-use Rattle.std.proofs.Common.{◌≡◌, ℤ, pos, ◌+ℤ◌, ◌≤ℤ◌, sym, subst, arith, rules}
+use Rattle.std.proofs.Common.{ℤ, pos, ◌+ℤ◌, sym, subst, arith, rules}
 use Rattle.std.proofs.lemmas.Int.{ints, to_z-of_z}
 use mir.Syntax.{w32}
 use mir.Val.{SFits, to_z}
 use Rattle.plain_plan.specs.Rows.{IsListed}
 use Rattle.plain_plan.specs.Plain.{is_border}
-use Rattle.plain_plan.proofs.RowLaws.{none_listed, all_listed}
+use Rattle.plain_plan.proofs.RowLaws.{all_listed}
 use Rattle.plain_plan.proofs.contour.contour_of_box.Goals as goal
 
 pub rows-preserved : goal.rows-preserved

@@ -1,4 +1,4 @@
-use Rattle.std.proofs.Common.{rules, ◌≡◌, ℤ, ℕ, pos, ◌+ℤ◌, ◌≤ℤ◌, ◌+◌, ◌≤◌, arith}
+use Rattle.std.proofs.Common.{arith}
 use borrow.Author.Differences.{ints}
 use Rattle.plain_plan.proofs.BorderLaws.{root_within, near_in}
 use Rattle.plain_plan.proofs.contour.frame_of.Goals as goal

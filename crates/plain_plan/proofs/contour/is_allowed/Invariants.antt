@@ -1,6 +1,4 @@
-use Rattle.std.proofs.Common.{◌≡◌, pos, true, take, int_lt}
-use Rattle.std.specs.List.{list_all}
-use Rattle.board_base.specs.Lattice.{dist2}
+use Rattle.std.proofs.Common.{◌≡◌, pos, true, take}
 use Rattle.plain_plan.specs.Plain.{is_clear}
 use Rattle.plain_plan.proofs.contour.is_allowed.Given as goal
 

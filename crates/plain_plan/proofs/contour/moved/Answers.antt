@@ -1,6 +1,5 @@
-use Rattle.std.proofs.Common.{◌≡◌, ℕ, ℤ, pos, ◌+ℤ◌, ◌≤ℤ◌, arith}
+use Rattle.std.proofs.Common.{◌+ℤ◌, arith}
 use borrow.Author.Differences.{ints}
-use Rattle.plain_plan.specs.Rows.{IsIndexed}
 use Rattle.plain_plan.specs.Plain.{moved as moved_of}
 use Rattle.plain_plan.proofs.RowLaws.{same_cell}
 use Rattle.plain_plan.proofs.contour.moved.Goals as goal

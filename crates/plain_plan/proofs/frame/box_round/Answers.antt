@@ -1,4 +1,4 @@
-use Rattle.std.proofs.Common.{◌≡◌, ℕ, ◌≤◌, arith, rules, take, length, sym, subst, List, get_or, ◌<◌, pos}
+use Rattle.std.proofs.Common.{◌≤◌, arith, take, length, sym, subst, List, get_or, ◌<◌, pos}
 use Rattle.std.proofs.lemmas.List.{take_all}
 use Rattle.std.proofs.lemmas.List.Elements.{All-same, All-more, All-weaker}
 use Rattle.board_base.specs.declared.places.Cell.{Cell}

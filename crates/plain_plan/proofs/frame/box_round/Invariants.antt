@@ -1,6 +1,6 @@
-use Rattle.std.proofs.Common.{◌≡◌, ℤ, ℕ, pos, take}
+use Rattle.std.proofs.Common.{take}
 use Rattle.std.specs.List.{All}
-use Rattle.plain_plan.specs.Rows.{IsIndexed, IsInBox, IsBoxWithin}
+use Rattle.plain_plan.specs.Rows.{IsInBox, IsBoxWithin}
 use Rattle.plain_plan.proofs.frame.box_round.Given as goal
 
 abbrev pub invariant-cells : goal.invariant-cells

@@ -1,6 +1,5 @@
-use Rattle.std.proofs.Common.{◌≡◌, ℤ, ℕ, pos, ◌≤ℤ◌, arith, rules}
+use Rattle.std.proofs.Common.{arith}
 use Rattle.std.proofs.lemmas.Int.{ints, clamps}
-use Rattle.plain_plan.specs.Rows.{IsIndexed, IsInBox, IsBoxWithin}
 use Rattle.plain_plan.proofs.frame.hull.Goals as goal
 
 pub returns-clause-within : goal.returns-clause-within

@@ -1,4 +1,4 @@
-use Rattle.std.proofs.Common.{◌≡◌, ℤ, pos, ◌≤ℤ◌}
+use Rattle.std.proofs.Common.{◌≤ℤ◌}
 use Rattle.plain_plan.specs.Rows.{IsListed}
 use Rattle.plain_plan.specs.Keeps.{keeps}
 use Rattle.plain_plan.proofs.kept.add_row.Given as goal

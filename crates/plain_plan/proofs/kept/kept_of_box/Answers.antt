@@ -1,4 +1,4 @@
-use Rattle.std.proofs.Common.{◌≡◌, ℤ, pos, ◌+ℤ◌, ◌≤ℤ◌, sym, subst, arith, rules}
+use Rattle.std.proofs.Common.{ℤ, pos, ◌+ℤ◌, arith, rules}
 use Rattle.std.proofs.lemmas.Int.{ints, to_z-of_z}
 use mir.Syntax.{w32, w64}
 use mir.Val.{SFits, to_z}

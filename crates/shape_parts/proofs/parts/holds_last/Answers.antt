@@ -1,4 +1,4 @@
-use Rattle.std.proofs.Common.{◌≡◌, Bool, not, ◌&&◌, rules}
+use Rattle.std.proofs.Common.{not, ◌&&◌}
 use Rattle.shape_parts.specs.Parts.{part_holds}
 use Rattle.shape_parts.proofs.Standing.{stands_at}
 use Rattle.shape_parts.proofs.parts.holds_last.Goals as goal

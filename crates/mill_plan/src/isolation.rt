@@ -1,0 +1,144 @@
+// The program of a side.
+ghost use Rattle.std.specs.Prelude.{◌≡◌, ℤ, ℕ, pos, ◌+ℤ◌, ◌-ℤ◌, ◌*ℤ◌, ◌≤ℤ◌, ◌<ℤ◌, ◌≤◌, ◌<◌, ◌*◌, ◌/◌, ◌^◌, unsigned_abs, IfOk, List, [], ◌∷◌, map};
+ghost use Rattle.std.specs.Int.{int_div_euclid};
+ghost use Rattle.board_base.specs.Lattice.{IsPitch, half_diagonal_of};
+ghost use Rattle.board_base.specs.Places.{AreWithin};
+ghost use Rattle.copper_cover.specs.Kept.{dark_rectangle};
+ghost use Rattle.rs274_sim.specs.Runs.{RunsTo};
+ghost use Rattle.mill_program.specs.Conditions.{IsProgram};
+ghost use Rattle.mill_program.specs.Lines.{lines_of};
+ghost use Rattle.mill_plan.specs.Job.{IsJob, radius_of, guard as guard_in};
+ghost use Rattle.mill_plan.specs.Cuts.{corner_of, cut_of, program_at as program_of};
+ghost use Rattle.mill_plan.specs.Mills.{Mills, IsProgramOf};
+
+use crate::Job;
+use board_base::{Cell, Items, centre, half_diagonal};
+use copper_cover::kept_law;
+use mill_program::{Corner, Cut, Program, ToolRun, run_law};
+use plain_plan::{contour_cells, kept_cells};
+use shape_parts::{Painted, cover_law};
+use std::alloc::{AllocError, Global};
+
+// Half of the cutter's diameter.
+#[tactic(auto, unfolding(crate::specs::Job::radius_of))]
+fn radius(job: &Job) -> i64
+    requires { IsJob job.now }
+    ensures value { result ≡ radius_of job.now }
+    ensures low { pos 10000 ≤ℤ result }
+    ensures high { result ≤ℤ pos 5000000 }
+{
+    job.mill_diameters.div_euclid(2)
+}
+
+// How far a centre must stay from the centre of a kept cell.
+fn reach(job: &Job, h: i64) -> u64
+    requires job { IsJob job.now }
+    requires low { pos 0 ≤ℤ h }
+    requires high { h ≤ℤ pos 200000 }
+    ensures value { pos result ≡ (radius_of job.now -ℤ job.now.tolerance) +ℤ pos 2 *ℤ h }
+    ensures size { result ≤ 5400000 }
+{
+    (radius(job) - job.tolerance + 2 * h) as u64
+}
+
+// The quotient of two squares.
+fn square_ratio(n: u64, d: u64) -> u64
+    requires n { n ≤ 5400000 }
+    requires low { 2000 ≤ d }
+    requires high { d ≤ 200000 }
+    ensures value { result ≡ (n * n) / (d * d) }
+    ensures size { result ≤ 100000000 }
+{
+    n * n / (d * d)
+}
+
+// The squared distance in cells that an allowed cell must pass.
+fn guard(job: &Job, h: i64) -> u64
+    requires job { IsJob job.now }
+    requires half { h ≡ half_diagonal_of job.now.pitch }
+    requires low { pos 0 ≤ℤ h }
+    requires high { h ≤ℤ pos 200000 }
+    ensures value { pos result ≡ guard_in job.now }
+    ensures size { result ≤ 100000000 }
+{
+    square_ratio(reach(job, h), job.pitch as u64)
+}
+
+// The centre of a cell at the depth of the cut.
+fn corner(c: Cell, job: &Job) -> Corner
+    requires { IsJob job.now }
+    ensures { result ≡ corner_of job.now c }
+{
+    let place = centre(c, job.pitch);
+    Corner {
+        x: place.x,
+        y: place.y,
+        z: job.zwork,
+    }
+}
+
+// A cut at the centre of a cell: its corner stands twice, so that the cutter is there at its depth.
+#[tactic(auto, unfolding(crate::specs::Cuts::cut_of))]
+fn cut(alloc: Global, c: Cell, job: &Job) -> Result<Cut, AllocError>
+    requires { IsJob job.now }
+    ensures { IfOk result (λ cut. cut ≡ cut_of job.now c) }
+{
+    let mut cut = Items::empty(alloc);
+    cut.push(corner(c, job))?;
+    cut.push(corner(c, job))?;
+    Ok(cut)
+}
+
+// One cut for each cell, in the order of the cells.
+fn cuts(alloc: Global, cells: &Vec<Cell>, job: &Job) -> Result<Items<Cut>, AllocError>
+    requires { IsJob job.now }
+    ensures { IfOk result (λ cuts. cuts ≡ map (cut_of job.now) cells.now.items) }
+{
+    let mut cuts = Items::empty(alloc);
+    'cells: for c in cells {
+        cuts.push(cut(alloc, *c, job)?)?;
+    }
+    Ok(cuts)
+}
+
+// The program that cuts at the centres of the cells.
+#[tactic(auto, unfolding(crate::specs::Cuts::run_at, crate::specs::Cuts::program_at))]
+fn program(alloc: Global, cells: &Vec<Cell>, job: &Job) -> Result<Program, AllocError>
+    requires { IsJob job.now }
+    ensures { IfOk result (λ p. p ≡ program_of job.now cells.now.items) }
+{
+    let cuts = cuts(alloc, cells, job)?;
+    let mut runs = Items::empty(alloc);
+    runs.push(ToolRun {
+        tool: 1,
+        speed: job.mill_speed,
+        feed: job.mill_feed,
+        plunge: job.mill_vertfeed,
+        cuts,
+    })?;
+    Ok(Program {
+        safe: job.zsafe,
+        change: job.zchange,
+        runs,
+    })
+}
+
+/// The program that isolates the copper of a side: one tool run of tool 1 with a cut at the centre of
+/// each cell of the contour, in order of rows. The only error is want of memory.
+pub fn isolate(alloc: Global, painted: &Vec<Painted>, job: &Job) -> Result<Program, AllocError>
+    requires job { IsJob job.now }
+    requires within { AreWithin (pos 400000000) (dark_rectangle painted.now.items) }
+    ensures words { IfOk result (IsProgramOf job.now) }
+    ensures program { IfOk result IsProgram }
+    ensures mills { IfOk result (λ p. RunsTo (lines_of p) (Mills job.now painted.now.items)) }
+{
+    cover_law();
+    kept_law();
+    run_law();
+    let h = half_diagonal(job.pitch);
+    let kept = kept_cells(alloc, painted, job.pitch)?;
+    let guard = guard(job, h);
+    let cells = contour_cells(alloc, &kept, guard)?;
+    let p = program(alloc, &cells, job)?;
+    Ok(p)
+}
