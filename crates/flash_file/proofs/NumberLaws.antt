@@ -1,5 +1,5 @@
 -- The numbers of texts that pass the tests of their form.
-use Rattle.std.proofs.Common.{◌≡◌, ℕ, ℤ, ◌≤◌, List, Option, Some, None, Bool, true, false, cond, Result, Ok, Err, length, arith, sym, ap, ◌∙◌}
+use Rattle.std.proofs.Common.{◌≡◌, ℕ, ℤ, ◌≤◌, List, Some, None, Bool, true, false, cond, Result, Ok, Err, length, arith, sym, ap, ◌∙◌}
 use Rattle.std.specs.Prelude.{nat_le, nat_lt, is_none, ◌&&◌}
 use Rattle.std.proofs.lemmas.Grind.{common_steps}
 use Rattle.board_base.specs.Parts.{◌>>=◌}

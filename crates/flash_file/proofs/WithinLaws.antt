@@ -1,13 +1,13 @@
 -- The rectangle of the pads, one pad more at a time.
-use Rattle.std.proofs.Common.{◌≡◌, refl, ℕ, ℤ, pos, neg_ℤ, ◌+ℤ◌, ◌-ℤ◌, ◌≤ℤ◌, ◌<ℤ◌, ◌<◌, ◌≤◌, int_lt, Bool, true, false, cond, List, [], ◌∷◌, ◌++◌, Option, Some, None, arith, ap, sym, ◌∙◌, subst}
-use Rattle.std.specs.Int.{int_min, int_max, int_div_euclid}
+use Rattle.std.proofs.Common.{◌≡◌, ℕ, ℤ, pos, neg_ℤ, ◌≤ℤ◌, ◌<◌, ◌≤◌, int_lt, Bool, true, false, cond, List, [], ◌∷◌, ◌++◌, Option, Some, None, arith, ap, sym, ◌∙◌, subst}
+use Rattle.std.specs.Int.{int_min, int_max}
 use borrow.Author.Differences.{ints}
 use Rattle.board_base.specs.Places.{IsWithin, AreWithin}
 use Rattle.board_base.specs.declared.places.Point.{Point}
 use Rattle.board_base.specs.declared.places.Bounds.{Bounds}
 use Rattle.shape_parts.specs.declared.shape.Painted.{Painted}
 use Rattle.shape_parts.specs.Boxes.{half_up, around, hull}
-use Rattle.copper_cover.specs.Kept.{joined, object_box, dark_rectangle}
+use Rattle.copper_cover.specs.Kept.{joined, dark_rectangle}
 use Rattle.copper_cover.proofs.KeptLaws.{dark_rectangle-append_one}
 use Rattle.flash_file.specs.Flashes.{pad}
 

@@ -3,7 +3,7 @@ use Rattle.std.specs.Prelude.{ℕ, ℤ, pos, neg_ℤ, List, [], ◌∷◌, Optio
 use Rattle.std.specs.Option.{option_map}
 use Rattle.board_base.specs.Parts.{◌>>=◌}
 use Rattle.board_base.specs.declared.places.Point.{Point}
-use Rattle.fixed_num.specs.Decimal.{Sign, none, plus, minus, Decimal, value_at}
+use Rattle.fixed_num.specs.Decimal.{Sign, none, plus, Decimal, value_at}
 use Rattle.fixed_num.specs.Spelled.{decimal_of}
 use Rattle.shape_parts.specs.declared.shape.Part.TheVariants.{Disc}
 use Rattle.shape_parts.specs.declared.shape.Painted.{Painted}

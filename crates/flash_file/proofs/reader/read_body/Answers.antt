@@ -1,4 +1,4 @@
-use Rattle.std.proofs.Common.{rules, arith, pos, ◌∙◌, sym, subst, ◌++◌, ◌∷◌, []}
+use Rattle.std.proofs.Common.{rules, arith, pos, ◌++◌, ◌∷◌, []}
 use Rattle.std.proofs.lemmas.Grind.{common_steps}
 use Rattle.board_base.specs.Places.{AreWithin}
 use Rattle.copper_cover.specs.Kept.{dark_rectangle}
