@@ -3,6 +3,7 @@ use Rattle.std.specs.Prelude.{◌≡◌, ◌≢◌, ℕ, zero, suc, ◌*◌, ◌
 use Rattle.std.specs.Int.{int_div_euclid}
 use Rattle.board_base.specs.declared.places.Point.{Point}
 use Rattle.board_base.specs.declared.places.Cell.{Cell}
+use Rattle.board_base.specs.declared.places.CellBox.{CellBox}
 
 -- a pitch of cells in nanometres: even, from 250 to 200,000
 pub record IsPitch (p : ℤ) : Type 0 where
@@ -37,6 +38,13 @@ pub record IsBeside (a b : Cell) : Type 0 where
 pub record AreNeighbours (a b : Cell) : Type 0 where
   pub apart : a ≢ b
   pub beside : IsBeside a b
+
+-- the cell lies in the box, whose ends belong to it
+pub record IsInBox (b : CellBox) (c : Cell) : Type 0 where
+  pub west : b.i0 ≤ℤ c.i
+  pub east : c.i ≤ℤ b.i1
+  pub south : b.j0 ≤ℤ c.j
+  pub north : c.j ≤ℤ b.j1
 
 -- the squared distance of the indices
 unfoldable pub dist2 : Cell → Cell → ℤ

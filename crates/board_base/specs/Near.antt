@@ -2,15 +2,19 @@
 use Rattle.std.specs.Prelude.{ℤ, pos, ◌+ℤ◌, ◌-ℤ◌, ◌*ℤ◌, ◌≤ℤ◌, Bool, cond, int_le}
 use Rattle.board_base.specs.declared.places.Point.{Point}
 
+-- the inner product of two ways
 unfoldable pub dot : ℤ → ℤ → ℤ → ℤ → ℤ
 dot ax ay bx by = ax *ℤ bx +ℤ ay *ℤ by
 
+-- their cross product
 unfoldable pub cross : ℤ → ℤ → ℤ → ℤ → ℤ
 cross ax ay bx by = ax *ℤ by -ℤ ay *ℤ bx
 
+-- a number times itself
 unfoldable pub square : ℤ → ℤ
 square z = z *ℤ z
 
+-- a limit times an area
 unfoldable pub area_by : ℤ → ℤ → ℤ
 area_by limit area = limit *ℤ area
 
@@ -33,6 +37,7 @@ near_vec ux uy wx wy vx vy d =
     (cond (int_le (dot wx wy ux uy) (pos 0)) (is_short wx wy d)
     (cond (int_le (dot ux uy ux uy) (dot wx wy ux uy)) (is_short vx vy d) (is_beside ux uy wx wy d)))
 
+-- the way from one coordinate to another
 unfoldable pub from_to : ℤ → ℤ → ℤ
 from_to a b = b -ℤ a
 

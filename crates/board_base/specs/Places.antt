@@ -8,6 +8,7 @@ pub record IsCoordinate (v : ℤ) : Type 0 where
   pub low : neg_ℤ (pos 500000000) ≤ℤ v
   pub high : v ≤ℤ pos 500000000
 
+-- the same of both coordinates of a point
 pub record IsPlace (p : Point) : Type 0 where
   pub x : IsCoordinate p.x
   pub y : IsCoordinate p.y
@@ -17,6 +18,7 @@ pub record IsNearCoordinate (v : ℤ) : Type 0 where
   pub low : neg_ℤ (pos 500100000) ≤ℤ v
   pub high : v ≤ℤ pos 500100000
 
+-- the same of both coordinates of a point
 pub record IsNearPlace (p : Point) : Type 0 where
   pub x_in : IsNearCoordinate p.x
   pub y_in : IsNearCoordinate p.y

@@ -13,9 +13,18 @@ fn a_memory_shelf_fails_where_it_is_told_to(rt: HostRuntime) -> Result<(), Fail>
     shelf.fail_write(1);
     let first = shelf.read(alloc, "a", LIMIT).ok().ok_or("refused")?;
     assert_eq!(rt; first.as_slice(), b"abcd".as_slice());
-    assert_eq!(rt; shelf.read(alloc, "a", LIMIT).err(), Some(ShelfError::Failed));
-    assert_eq!(rt; shelf.read(alloc, "b", LIMIT).err(), Some(ShelfError::Failed));
-    assert_eq!(rt; shelf.read(alloc, "a", LIMIT - 1).err(), Some(ShelfError::TooLong));
+    assert_eq!(rt;
+        shelf.read(alloc, "a", LIMIT).err(),
+        Some(ShelfError::Failed)
+    );
+    assert_eq!(rt;
+        shelf.read(alloc, "b", LIMIT).err(),
+        Some(ShelfError::Failed)
+    );
+    assert_eq!(rt;
+        shelf.read(alloc, "a", LIMIT - 1).err(),
+        Some(ShelfError::TooLong)
+    );
     assert_eq!(rt; shelf.write("b", b"x"), Err(ShelfError::Failed));
     assert!(rt; shelf.get("b").is_none());
     assert_eq!(rt; shelf.write("b", b"x"), Ok(()));
@@ -30,7 +39,10 @@ fn a_steady_shelf_never_fails(rt: HostRuntime) -> Result<(), Fail> {
     shelf.add("a", b"abcd")?;
     let read = shelf.read(alloc, "a", LIMIT).ok().ok_or("refused")?;
     assert_eq!(rt; read.as_slice(), b"abcd".as_slice());
-    assert_eq!(rt; shelf.read(alloc, "a", LIMIT - 1).err(), Some(ShelfError::TooLong));
+    assert_eq!(rt;
+        shelf.read(alloc, "a", LIMIT - 1).err(),
+        Some(ShelfError::TooLong)
+    );
     assert_eq!(rt; shelf.write("a", b"x"), Ok(()));
     assert_eq!(rt; shelf.get("a").ok_or("not held")?, b"x".as_slice());
     Ok(())
@@ -67,7 +79,12 @@ fn a_list_keeps_its_items(rt: HostRuntime) -> Result<(), Fail> {
 
 #[test]
 fn cells_have_their_measures(rt: HostRuntime) {
-    for (pitch, half) in [(200_000, 141_422), (20_000, 14_143), (2_000, 1_415), (250, 177)] {
+    for (pitch, half) in [
+        (200_000, 141_422),
+        (20_000, 14_143),
+        (2_000, 1_415),
+        (250, 177),
+    ] {
         assert_eq!(rt; half_diagonal(pitch), half, "at {pitch}");
     }
     for (i, x) in [(0, 100_000), (6, 1_300_000), (-2, -300_000)] {

@@ -33,6 +33,20 @@ same_point p c e = cc
 line_parts : (a b : List ℕ) → codes "X" ++ (a ++ 89 ∷ (b ++ 68 ∷ codes "03*")) ≡ codes "X" ++ a ++ codes "Y" ++ b ++ codes "D03*"
 line_parts a b = simp append_assoc refl
 
+-- a line whose parts are those of a flash
+flash_is : (line x_rest a y_rest b d_rest end : List ℕ) (v w : ℤ) (c : Point) → after (codes "X") line ≡ Some x_rest → cut 89 x_rest ≡ Some (a, y_rest) → cut 68 y_rest ≡ Some (b, d_rest)
+    → exactly (codes "03*") d_rest ≡ Some end → coordinate_of a ≡ Some v → coordinate_of b ≡ Some w → record { x = v; y = w } ≡ c → IsFlash line c
+flash_is line x_rest a y_rest b d_rest end v w c at_x at_y at_d at_end x y same = record {
+  x_text = a;
+  y_text = b;
+  written =
+      after_from (codes "X") line x_rest at_x
+      ∙ ap (λ r. codes "X" ++ r) (cut_from 89 x_rest (a, y_rest) at_y ∙ ap (λ r. a ++ 89 ∷ r) (cut_from 68 y_rest (b, d_rest) at_d ∙ ap (λ r. b ++ 68 ∷ r) (exactly_from (codes "03*") d_rest end at_end)))
+      ∙ line_parts a b;
+  x = subst (WritesCoordinate a) (ap (λ (p : Point). p.x) same) (coordinate_from a v x);
+  y = subst (WritesCoordinate b) (ap (λ (p : Point). p.y) same) (coordinate_from b w y);
+}
+
 pub flash_from : (line : List ℕ) (c : Point) → flash_of line ≡ Some c → IsFlash line c
 unfolding flash_of
 flash_from line c e =
@@ -42,17 +56,7 @@ flash_from line c e =
     let end = step (exactly (codes "03*") d.0.1) (λ end. point_of y.0.0 d.0.0) c d.2 in
     let a = step (coordinate_of y.0.0) (λ v. coordinate_of d.0.0 >>= (λ w. Some (record { x = v; y = w }))) c end.2 in
     let b = step (coordinate_of d.0.0) (λ w. Some (record { x = a.0; y = w })) c a.2 in
-    let same = same_point (record { x = a.0; y = b.0 }) c b.2 in
-    record {
-      x_text = y.0.0;
-      y_text = d.0.0;
-      written =
-          after_from (codes "X") line x.0 x.1
-          ∙ ap (λ r. codes "X" ++ r) (cut_from 89 x.0 y.0 y.1 ∙ ap (λ r. y.0.0 ++ 89 ∷ r) (cut_from 68 y.0.1 d.0 d.1 ∙ ap (λ r. d.0.0 ++ 68 ∷ r) (exactly_from (codes "03*") d.0.1 end.0 end.1)))
-          ∙ line_parts y.0.0 d.0.0;
-      x = subst (WritesCoordinate y.0.0) (ap (λ (p : Point). p.x) same) (coordinate_from y.0.0 a.0 a.1);
-      y = subst (WritesCoordinate d.0.0) (ap (λ (p : Point). p.y) same) (coordinate_from d.0.0 b.0 b.1);
-    }
+    flash_is line x.0 y.0.0 y.0.1 d.0.0 d.0.1 end.0 a.0 b.0 c x.1 y.1 d.1 end.1 a.1 b.1 (same_point (record { x = a.0; y = b.0 }) c b.2)
 
 letter_y : IsOther 89
 letter_y = record { plus = refl; minus = refl; point = refl; digit = inr (omega arith) }

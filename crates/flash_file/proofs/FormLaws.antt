@@ -4,7 +4,7 @@ use Rattle.std.specs.Prelude.{◌≢◌, ◌&&◌, nat_lt, nat_le, int_le, int_l
 use Rattle.std.proofs.lemmas.Grind.{common_steps}
 use borrow.Author.Differences.{ints}
 use Rattle.board_base.specs.Parts.{◌>>=◌}
-use Rattle.fixed_num.specs.Decimal.{Sign, none, plus, minus, value_at}
+use Rattle.fixed_num.specs.Decimal.{Decimal, Sign, none, plus, minus, value_at}
 use Rattle.fixed_num.specs.Spelled.{decimal_of}
 use Rattle.fixed_num.proofs.SpelledLaws.{spelled_law}
 use Rattle.flash_file.specs.Flashes.{is_no_plus, is_no_sign, is_short, is_coordinate, is_diameter, in_range, in_width, coordinate_of, diameter_of}
@@ -74,6 +74,24 @@ under a b e = grind (arith, ints, e)
 is_under : (a b : ℤ) → a <ℤ b → int_lt a b ≡ true
 is_under a b h = grind (arith, ints)
 
+-- a decimal that passes the tests of a coordinate
+coordinate_is : (text : List ℕ) (d : Decimal) (x : ℤ) → decimal_of text ≡ Some d → is_coordinate d ≡ true → in_range (value_at 0 d) ≡ Some x → WritesCoordinate text x
+coordinate_is text d x e test range =
+    let spelled = (spelled_law text d).0 e in
+    let ranged = chosen (int_le (neg_ℤ (pos 100000000)) (value_at 0 d) && int_le (value_at 0 d) (pos 100000000)) (value_at 0 d) x range in
+    let plain = first_of (is_no_plus d.sign && is_none d.fraction) (nat_le (length d.whole) 9) test in
+    record {
+      number = d;
+      written = spelled.1;
+      digits = spelled.0;
+      sign = no_plus_from d.sign (first_of (is_no_plus d.sign) (is_none d.fraction) plain);
+      no_point = no_point_from d.fraction (second_of (is_no_plus d.sign) (is_none d.fraction) plain);
+      few = at_most (length d.whole) 9 (second_of (is_no_plus d.sign && is_none d.fraction) (nat_le (length d.whole) 9) test);
+      value = ranged.1;
+      low = subst (λ v. neg_ℤ (pos 100000000) ≤ℤ v) ranged.1 (not_above (neg_ℤ (pos 100000000)) (value_at 0 d) (first_of (int_le (neg_ℤ (pos 100000000)) (value_at 0 d)) (int_le (value_at 0 d) (pos 100000000)) ranged.0));
+      high = subst (λ v. v ≤ℤ pos 100000000) ranged.1 (not_above (value_at 0 d) (pos 100000000) (second_of (int_le (neg_ℤ (pos 100000000)) (value_at 0 d)) (int_le (value_at 0 d) (pos 100000000)) ranged.0));
+    }
+
 -- the text of a coordinate
 pub coordinate_from : (text : List ℕ) (x : ℤ) → coordinate_of text ≡ Some x → WritesCoordinate text x
 unfolding coordinate_of
@@ -81,20 +99,7 @@ coordinate_from text x e =
     let found = step (decimal_of text) (λ d. cond (is_coordinate d) (Some d) None >>= (λ p. in_range (value_at 0 p))) x e in
     let tested = step (cond (is_coordinate found.0) (Some found.0) None) (λ p. in_range (value_at 0 p)) x found.2 in
     let test = chosen (is_coordinate found.0) found.0 tested.0 tested.1 in
-    let ranged = chosen (int_le (neg_ℤ (pos 100000000)) (value_at 0 tested.0) && int_le (value_at 0 tested.0) (pos 100000000)) (value_at 0 tested.0) x tested.2 in
-    let spelled = (spelled_law text found.0).0 found.1 in
-    let value : value_at 0 found.0 ≡ x = ap (value_at 0) test.1 ∙ ranged.1 in
-    record {
-      number = found.0;
-      written = spelled.1;
-      digits = spelled.0;
-      sign = no_plus_from found.0.sign (first_of (is_no_plus found.0.sign) (is_none found.0.fraction) (first_of (is_no_plus found.0.sign && is_none found.0.fraction) (nat_le (length found.0.whole) 9) test.0));
-      no_point = no_point_from found.0.fraction (second_of (is_no_plus found.0.sign) (is_none found.0.fraction) (first_of (is_no_plus found.0.sign && is_none found.0.fraction) (nat_le (length found.0.whole) 9) test.0));
-      few = at_most (length found.0.whole) 9 (second_of (is_no_plus found.0.sign && is_none found.0.fraction) (nat_le (length found.0.whole) 9) test.0);
-      value = value;
-      low = subst (λ v. neg_ℤ (pos 100000000) ≤ℤ v) ranged.1 (not_above (neg_ℤ (pos 100000000)) (value_at 0 tested.0) (first_of (int_le (neg_ℤ (pos 100000000)) (value_at 0 tested.0)) (int_le (value_at 0 tested.0) (pos 100000000)) ranged.0));
-      high = subst (λ v. v ≤ℤ pos 100000000) ranged.1 (not_above (value_at 0 tested.0) (pos 100000000) (second_of (int_le (neg_ℤ (pos 100000000)) (value_at 0 tested.0)) (int_le (value_at 0 tested.0) (pos 100000000)) ranged.0));
-    }
+    coordinate_is text found.0 x found.1 test.0 (ap (λ d. in_range (value_at 0 d)) test.1 ∙ tested.2)
 
 range_to : (x : ℤ) → neg_ℤ (pos 100000000) ≤ℤ x → x ≤ℤ pos 100000000 → in_range x ≡ Some x
 range_to x low high = ap (λ b. cond b (Some x) None) (both_of (int_le (neg_ℤ (pos 100000000)) x) (int_le x (pos 100000000)) (is_not_above (neg_ℤ (pos 100000000)) x low) (is_not_above x (pos 100000000) high))
@@ -113,6 +118,26 @@ coordinate_to text x w =
     ∙ ap in_range w.value
     ∙ range_to x w.low w.high
 
+-- a decimal that passes the tests of a diameter
+diameter_is : (text : List ℕ) (d : Decimal) (n : ℤ) → decimal_of text ≡ Some d → is_diameter d ≡ true → in_width (value_at 6 d) ≡ Some n → WritesDiameter text n
+diameter_is text d n e test width =
+    let spelled = (spelled_law text d).0 e in
+    let ranged = chosen (int_lt (pos 0) (value_at 6 d) && int_le (value_at 6 d) (pos 10000000)) (value_at 6 d) n width in
+    let three = first_of (is_no_sign d.sign && nat_lt 0 (length d.whole) && nat_le (length d.whole) 2) (is_short d.fraction) test in
+    let two = first_of (is_no_sign d.sign && nat_lt 0 (length d.whole)) (nat_le (length d.whole) 2) three in
+    record {
+      number = d;
+      written = spelled.1;
+      digits = spelled.0;
+      sign = no_sign_from d.sign (first_of (is_no_sign d.sign) (nat_lt 0 (length d.whole)) two);
+      some = below 0 (length d.whole) (second_of (is_no_sign d.sign) (nat_lt 0 (length d.whole)) two);
+      few = at_most (length d.whole) 2 (second_of (is_no_sign d.sign && nat_lt 0 (length d.whole)) (nat_le (length d.whole) 2) three);
+      fraction = short_from d.fraction (second_of (is_no_sign d.sign && nat_lt 0 (length d.whole) && nat_le (length d.whole) 2) (is_short d.fraction) test);
+      value = ranged.1;
+      low = subst (λ v. pos 0 <ℤ v) ranged.1 (under (pos 0) (value_at 6 d) (first_of (int_lt (pos 0) (value_at 6 d)) (int_le (value_at 6 d) (pos 10000000)) ranged.0));
+      high = subst (λ v. v ≤ℤ pos 10000000) ranged.1 (not_above (value_at 6 d) (pos 10000000) (second_of (int_lt (pos 0) (value_at 6 d)) (int_le (value_at 6 d) (pos 10000000)) ranged.0));
+    }
+
 -- the text of a diameter
 pub diameter_from : (text : List ℕ) (n : ℤ) → diameter_of text ≡ Some n → WritesDiameter text n
 unfolding diameter_of
@@ -120,22 +145,7 @@ diameter_from text n e =
     let found = step (decimal_of text) (λ d. cond (is_diameter d) (Some d) None >>= (λ p. in_width (value_at 6 p))) n e in
     let tested = step (cond (is_diameter found.0) (Some found.0) None) (λ p. in_width (value_at 6 p)) n found.2 in
     let test = chosen (is_diameter found.0) found.0 tested.0 tested.1 in
-    let ranged = chosen (int_lt (pos 0) (value_at 6 tested.0) && int_le (value_at 6 tested.0) (pos 10000000)) (value_at 6 tested.0) n tested.2 in
-    let spelled = (spelled_law text found.0).0 found.1 in
-    let three = first_of (is_no_sign found.0.sign && nat_lt 0 (length found.0.whole) && nat_le (length found.0.whole) 2) (is_short found.0.fraction) test.0 in
-    let two = first_of (is_no_sign found.0.sign && nat_lt 0 (length found.0.whole)) (nat_le (length found.0.whole) 2) three in
-    record {
-      number = found.0;
-      written = spelled.1;
-      digits = spelled.0;
-      sign = no_sign_from found.0.sign (first_of (is_no_sign found.0.sign) (nat_lt 0 (length found.0.whole)) two);
-      some = below 0 (length found.0.whole) (second_of (is_no_sign found.0.sign) (nat_lt 0 (length found.0.whole)) two);
-      few = at_most (length found.0.whole) 2 (second_of (is_no_sign found.0.sign && nat_lt 0 (length found.0.whole)) (nat_le (length found.0.whole) 2) three);
-      fraction = short_from found.0.fraction (second_of (is_no_sign found.0.sign && nat_lt 0 (length found.0.whole) && nat_le (length found.0.whole) 2) (is_short found.0.fraction) test.0);
-      value = ap (value_at 6) test.1 ∙ ranged.1;
-      low = subst (λ v. pos 0 <ℤ v) ranged.1 (under (pos 0) (value_at 6 tested.0) (first_of (int_lt (pos 0) (value_at 6 tested.0)) (int_le (value_at 6 tested.0) (pos 10000000)) ranged.0));
-      high = subst (λ v. v ≤ℤ pos 10000000) ranged.1 (not_above (value_at 6 tested.0) (pos 10000000) (second_of (int_lt (pos 0) (value_at 6 tested.0)) (int_le (value_at 6 tested.0) (pos 10000000)) ranged.0));
-    }
+    diameter_is text found.0 n found.1 test.0 (ap (λ d. in_width (value_at 6 d)) test.1 ∙ tested.2)
 
 width_to : (n : ℤ) → pos 0 <ℤ n → n ≤ℤ pos 10000000 → in_width n ≡ Some n
 width_to n low high = ap (λ b. cond b (Some n) None) (both_of (int_lt (pos 0) n) (int_le n (pos 10000000)) (is_under (pos 0) n low) (is_not_above n (pos 10000000) high))

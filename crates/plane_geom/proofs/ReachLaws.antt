@@ -10,8 +10,8 @@ use Rattle.board_base.specs.declared.places.Point.{Point}
 use Rattle.board_base.specs.declared.places.Cell.{Cell}
 use Rattle.board_base.specs.declared.places.CellBox.{CellBox}
 use Rattle.board_base.specs.Near.{near_of}
-use Rattle.board_base.specs.Lattice.{IsPitch, half_of, middle, centre_of}
-use Rattle.plane_geom.specs.Reach.{IsInBox, IsFirst, IsLast, IsQuotient, back_from, way_to}
+use Rattle.board_base.specs.Lattice.{IsPitch, IsInBox, half_of, middle, centre_of}
+use Rattle.plane_geom.specs.Reach.{IsFirst, IsLast, IsQuotient, back_from, way_to}
 use Rattle.plane_geom.proofs.Axis.{reached_of, axis_low, axis_high, first_part, second_part}
 
 nonneg : (m : ℤ) → pos 500 ≤ℤ m → pos 0 ≤ℤ m

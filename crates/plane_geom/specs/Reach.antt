@@ -1,15 +1,6 @@
 -- Which cells lie round a segment.
 use Rattle.std.specs.Prelude.{ℤ, pos, ◌+ℤ◌, ◌-ℤ◌, ◌*ℤ◌, ◌≤ℤ◌, ◌<ℤ◌}
-use Rattle.board_base.specs.declared.places.Cell.{Cell}
-use Rattle.board_base.specs.declared.places.CellBox.{CellBox}
 use Rattle.board_base.specs.Lattice.{middle}
-
--- the cell lies in the box
-pub record IsInBox (box : CellBox) (c : Cell) : Type 0 where
-  pub west : box.i0 ≤ℤ c.i
-  pub east : c.i ≤ℤ box.i1
-  pub south : box.j0 ≤ℤ c.j
-  pub north : c.j ≤ℤ box.j1
 
 -- i is the first column whose middle is at most half of d before x
 pub record IsFirst (p d x i : ℤ) : Type 0 where

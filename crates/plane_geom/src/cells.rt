@@ -4,8 +4,8 @@ ghost use Rattle.std.specs.Int.{int_min, int_max};
 ghost use Rattle.board_base.specs.declared.places.Cell.{Cell};
 ghost use Rattle.board_base.specs.Places.{IsNearPlace, IsNearCoordinate};
 ghost use Rattle.board_base.specs.Near.{near_of};
-ghost use Rattle.board_base.specs.Lattice.{IsPitch, centre_of};
-ghost use Rattle.plane_geom.specs.Reach.{IsInBox, IsFirst, IsLast, IsQuotient, back_from as back_from_of, way_to as way_to_of};
+ghost use Rattle.board_base.specs.Lattice.{IsPitch, IsInBox, centre_of};
+ghost use Rattle.plane_geom.specs.Reach.{IsFirst, IsLast, IsQuotient, back_from as back_from_of, way_to as way_to_of};
 
 use board_base::{CellBox, Point};
 

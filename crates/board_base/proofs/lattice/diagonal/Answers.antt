@@ -16,4 +16,3 @@ returns-clause-least c = root_least c.args.p (c.args.p / 2) c.isqrt.result (root
 
 pub returns-clause-high : goal.returns-clause-high
 returns-clause-high c = root_high c.args.p (c.args.p / 2) c.isqrt.result (root c)
-
