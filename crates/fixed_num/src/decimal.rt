@@ -108,7 +108,8 @@ fn is_decimal(text: &DecimalText<'_>) -> bool
 /// The parts of a decimal's text: a sign or none, then digits with at most one point before, among or behind
 /// them, and at least one digit. `None` where the bytes are no decimal.
 pub fn split_decimal(bytes: &[u8]) -> Option<DecimalText<'_>>
-    ensures value { MatchOption result (decimal_of bytes.now ≡ None) (λ text. decimal_of bytes.now ≡ Some (decimal_shown text)) }
+    ensures value { MatchOption result (decimal_of bytes.now ≡ None)
+        (λ text. decimal_of bytes.now ≡ Some (decimal_shown text)) }
     ensures digits { IfSome result (λ text. IsDecimal (decimal_shown text)) }
 {
     let text = parts_of(bytes);

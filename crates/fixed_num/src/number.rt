@@ -55,7 +55,8 @@ fn size_of(text: &DecimalText<'_>, scale: u32) -> u128
     requires scale { scale ≤ 12 }
     requires short { length (text.now).whole.now ≤ 18 }
     requires digits { IsDecimal (decimal_shown text.now) }
-    ensures value { result ≡ digits_value 10 ((text.now).whole.now ++ take scale (fraction_of (decimal_shown text.now))) * 10 ^ (scale - length (fraction_of (decimal_shown text.now))) }
+    ensures value { result ≡ digits_value 10 ((text.now).whole.now ++ take scale (fraction_of (decimal_shown text.now)))
+        * 10 ^ (scale - length (fraction_of (decimal_shown text.now))) }
     ensures bound { result < 10 ^ 30 }
 {
     let decimals = text.decimals();
@@ -94,7 +95,8 @@ fn decimals_used(digits: &[u8]) -> usize
 // The parts of a decimal of at most 18 digits before the point.
 #[tactic(auto, unfolding(crate::specs::Values::short_of))]
 fn short_decimal(bytes: &[u8]) -> Result<DecimalText<'_>, NumError>
-    ensures value { MatchResult result (λ text. short_of bytes.now ≡ Ok (decimal_shown text)) (λ e. short_of bytes.now ≡ Err e) }
+    ensures value { MatchResult result (λ text. short_of bytes.now ≡ Ok (decimal_shown text))
+        (λ e. short_of bytes.now ≡ Err e) }
     ensures digits { IfOk result (λ text. IsDecimal (decimal_shown text)) }
     ensures short { IfOk result (λ text. length text.whole.now ≤ 18) }
 {

@@ -37,7 +37,8 @@ fn is_diameter(text: &DecimalText<'_>) -> bool
 
 // The number, where it is at most 100 mm in size.
 fn ranged(n: i128) -> Option<i64>
-    ensures { MatchOption result (in_range n ≡ None) (λ x. (in_range n ≡ Some x) × (neg_ℤ (pos 100000000) ≤ℤ x) × (x ≤ℤ pos 100000000)) }
+    ensures { MatchOption result (in_range n ≡ None)
+        (λ x. (in_range n ≡ Some x) × (neg_ℤ (pos 100000000) ≤ℤ x) × (x ≤ℤ pos 100000000)) }
 {
     if -100_000_000 <= n && n <= 100_000_000 {
         Some(n as i64)

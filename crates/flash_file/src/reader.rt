@@ -46,7 +46,8 @@ impl From<AllocError> for FlashError {
 #[tactic(auto, unfolding(crate::specs::Flashes::flash_of))]
 fn read_flash(line: &[u8]) -> Option<Point>
     ensures value { MatchOption result (flash_of line.now ≡ None) (λ c. flash_of line.now ≡ Some c) }
-    ensures ranges { IfSome result (λ c. (neg_ℤ (pos 100000000) ≤ℤ c.x) × (c.x ≤ℤ pos 100000000) × (neg_ℤ (pos 100000000) ≤ℤ c.y) × (c.y ≤ℤ pos 100000000)) }
+    ensures ranges { IfSome result (λ c. (neg_ℤ (pos 100000000) ≤ℤ c.x) × (c.x ≤ℤ pos 100000000)
+        × (neg_ℤ (pos 100000000) ≤ℤ c.y) × (c.y ≤ℤ pos 100000000)) }
 {
     let rest = after(line, b"X")?;
     let (a, rest) = cut_at(rest, b'Y')?;
@@ -124,7 +125,8 @@ fn read_body(alloc: Global, d: u32, bytes: &[u8]) -> Result<Vec<Painted>, FlashE
 // The diameter that the first four lines define and choose, and the bytes behind them.
 #[tactic(auto, unfolding(crate::specs::Flashes::head_of))]
 fn read_head(bytes: &[u8]) -> Option<(u32, &[u8])>
-    ensures value { MatchOption result (head_of bytes.now ≡ None) (λ head. head_of bytes.now ≡ Some (pos head.0, head.1.now)) }
+    ensures value { MatchOption result (head_of bytes.now ≡ None)
+        (λ head. head_of bytes.now ≡ Some (pos head.0, head.1.now)) }
     ensures width { IfSome result (λ head. (0 < head.0) × (head.0 ≤ 10000000)) }
 {
     let rest = after(bytes, b"%FSLAX46Y46*%\n%MOMM*%\n%ADD10C,")?;

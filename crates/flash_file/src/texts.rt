@@ -3,9 +3,10 @@ ghost use Rattle.std.specs.Prelude.{◌≡◌, ◌<◌, length, MatchOption, IfS
 ghost use Rattle.std.specs.List.{position};
 ghost use Rattle.flash_file.specs.Texts.{after as after_in, cut};
 
-// What stands behind this text, where the bytes begin with it.
+/// What stands behind this text, where the bytes begin with it.
 pub fn after<'a>(bytes: &'a [u8], text: &[u8]) -> Option<&'a [u8]>
-    ensures { MatchOption result (after_in text.now bytes.now ≡ None) (λ rest. after_in text.now bytes.now ≡ Some rest.now) }
+    ensures { MatchOption result (after_in text.now bytes.now ≡ None)
+        (λ rest. after_in text.now bytes.now ≡ Some rest.now) }
 {
     if bytes.len() < text.len() {
         return None;
@@ -21,10 +22,11 @@ fn place_of(bytes: &[u8], end: u8) -> Option<usize>
     bytes.iter().position(|b| *b == end)
 }
 
-// What stands before the first such byte, and behind it.
+/// What stands before the first such byte, and behind it.
 #[tactic(auto, unfolding(crate::specs::Texts::cut))]
 pub fn cut_at(bytes: &[u8], end: u8) -> Option<(&[u8], &[u8])>
-    ensures value { MatchOption result (cut end bytes.now ≡ None) (λ halves. cut end bytes.now ≡ Some (halves.0.now, halves.1.now)) }
+    ensures value { MatchOption result (cut end bytes.now ≡ None)
+        (λ halves. cut end bytes.now ≡ Some (halves.0.now, halves.1.now)) }
     ensures shorter { IfSome result (λ halves. length halves.1.now < length bytes.now) }
 {
     match place_of(bytes, end) {

@@ -1,7 +1,6 @@
 // The program of a side.
-ghost use Rattle.std.specs.Prelude.{◌≡◌, ℤ, ℕ, pos, ◌+ℤ◌, ◌-ℤ◌, ◌*ℤ◌, ◌≤ℤ◌, ◌<ℤ◌, ◌≤◌, ◌<◌, ◌*◌, ◌/◌, ◌^◌, unsigned_abs, IfOk, List, [], ◌∷◌, map};
-ghost use Rattle.std.specs.Int.{int_div_euclid};
-ghost use Rattle.board_base.specs.Lattice.{IsPitch, half_diagonal_of};
+ghost use Rattle.std.specs.Prelude.{◌≡◌, ℤ, pos, ◌+ℤ◌, ◌-ℤ◌, ◌*ℤ◌, ◌≤ℤ◌, ◌≤◌, ◌*◌, ◌/◌, IfOk, map};
+ghost use Rattle.board_base.specs.Lattice.{half_diagonal_of};
 ghost use Rattle.board_base.specs.Places.{AreWithin};
 ghost use Rattle.copper_cover.specs.Kept.{dark_rectangle};
 ghost use Rattle.rs274_sim.specs.Runs.{RunsTo};

@@ -1,10 +1,10 @@
 // The border of the cells that a cutter may visit.
-ghost use Rattle.std.specs.Prelude.{◌≡◌, ◌↔◌, ℤ, ℕ, pos, negsuc, ◌+ℤ◌, ◌-ℤ◌, ◌*ℤ◌, ◌≤ℤ◌, ◌<ℤ◌, ◌≤◌, ◌+◌, [], IfOk, OnOk, IfSome, IsNone, Bool, true, IsTrue, not, ◌&&◌, int_lt, unsigned_abs};
+ghost use Rattle.std.specs.Prelude.{◌≡◌, ◌↔◌, ℤ, pos, negsuc, ◌+ℤ◌, ◌-ℤ◌, ◌*ℤ◌, ◌≤ℤ◌, ◌≤◌, [], IfOk, OnOk, IfSome, IsNone, Bool, true, int_lt, unsigned_abs};
 ghost use Rattle.std.specs.List.{All, Contains};
 ghost use Rattle.board_base.specs.Lattice.{dist2};
 ghost use Rattle.board_base.specs.Contour.{IsContour};
 ghost use Rattle.plain_plan.specs.Rows.{IsInRows, IsIndexed, IsInBox, IsBoxWithin, IsListed, ListsIn};
-ghost use Rattle.plain_plan.specs.Plain.{is_clear, are_three_clear, are_nine_clear, is_border, IsNearOne, moved as moved_of};
+ghost use Rattle.plain_plan.specs.Plain.{is_clear, are_three_clear, is_border, IsNearOne, moved as moved_of};
 
 use crate::frame::{box_round, grown, push_if};
 use board_base::{Cell, CellBox};
@@ -81,7 +81,8 @@ fn moved(c: Cell, i: i32, j: i32) -> Cell
     requires south { negsuc 0 ≤ℤ j }
     requires north { j ≤ℤ pos 1 }
     ensures value { result ≡ moved_of i j c }
-    ensures within { (n : ℕ) → IsIndexed n c → n ≤ 1010002 → IsIndexed (n + 1) result }
+    ensures column { result.i ≡ c.i +ℤ i }
+    ensures row { result.j ≡ c.j +ℤ j }
 {
     Cell {
         i: c.i + i,

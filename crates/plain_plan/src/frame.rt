@@ -1,5 +1,5 @@
 // Boxes of cells, and lists of what passes in them.
-ghost use Rattle.std.specs.Prelude.{◌≡◌, ◌↔◌, ℤ, ℕ, pos, ◌+ℤ◌, ◌-ℤ◌, ◌*ℤ◌, ◌≤ℤ◌, ◌<ℤ◌, ◌≤◌, ◌++◌, [], ◌∷◌, IfSome, IsNone, OnOk, Bool, cond};
+ghost use Rattle.std.specs.Prelude.{◌≡◌, ◌↔◌, ℤ, pos, ◌+ℤ◌, ◌-ℤ◌, ◌≤ℤ◌, ◌++◌, [], ◌∷◌, IfSome, IsNone, OnOk, cond};
 ghost use Rattle.std.specs.List.{All};
 ghost use Rattle.plain_plan.specs.Rows.{IsIndexed, IsInBox, IsBoxWithin};
 
@@ -35,7 +35,7 @@ fn hull(b: CellBox, c: Cell) -> CellBox
 /// The box round the cells, where there are any.
 pub fn box_round(cells: &Vec<Cell>) -> Option<CellBox>
     requires { All (IsIndexed 1000000) cells.now.items }
-    ensures none { IsNone result → cells.now.items ≡ [] }
+    ensures none { IsNone result ↔ (cells.now.items ≡ []) }
     ensures within { IfSome result (IsBoxWithin 1000000) }
     ensures holds { IfSome result (λ b. All (IsInBox b) cells.now.items) }
 {

@@ -1,0 +1,4 @@
+pub mod PlaceLaws
+pub mod PlaneLaws
+pub mod QueueLaws
+pub mod BoxLaws

@@ -1,0 +1,139 @@
+-- the planes of a table of bytes after one byte is read or written
+use Rattle.std.proofs.Common.{◌≡◌, ◌≢◌, ℕ, ◌<◌, ◌==◌, zero, suc, Bool, false, List, [], ◌∷◌, map, length, replicate, get_or, set, refl, sym, ap, subst, ◌∙◌, arith}
+use Rattle.std.proofs.Math.Seq.{map-set_same}
+use Rattle.std.proofs.lemmas.List.{length-map, map-set, get_or-map, get_or_default}
+use Rattle.board_base.specs.declared.places.Cell.{Cell}
+use Rattle.cell_grid.specs.Place.{place_of, cells_of, scratch_of}
+use Rattle.std.specs.Int.{bit_at}
+use Rattle.std.specs.Vec.{with_item}
+use Rattle.cell_grid.specs.declared.bits.Plane.{Plane}
+use Rattle.cell_grid.specs.declared.bits.Plane.TheVariants.{Kept, Allowed, Pass, Visited, Swept}
+use Rattle.cell_grid.specs.declared.tables.Workbench.TheInside.{Inside}
+use Rattle.cell_grid.specs.Grid.{Grid, plane_of, with_plane, IsSized, blank_of}
+use Rattle.cell_grid.specs.PlaneBits.{bits_at, bit_number}
+use Rattle.cell_grid.specs.Planes.{grid_of, IsWhole}
+
+bits_at_read : (b : ℕ) (xs : List ℕ) (k : ℕ) → k < length xs → (bit_at (get_or xs k 0) b == 1) ≡ get_or (bits_at b xs) k false
+unfolding bits_at
+bits_at_read b xs k h = sym (get_or-map (λ (n : ℕ). bit_at n b == 1) xs k 0 false h)
+
+pub plane_read : (w : Inside) (p : Plane) (k : ℕ) → k < length w.flags.items → (bit_at (get_or w.flags.items k 0) (bit_number p) == 1) ≡ get_or (plane_of (grid_of w) p) k false
+plane_read w Kept k h = bits_at_read 0 w.flags.items k h
+plane_read w Allowed k h = bits_at_read 1 w.flags.items k h
+plane_read w Pass k h = bits_at_read 2 w.flags.items k h
+plane_read w Visited k h = bits_at_read 3 w.flags.items k h
+plane_read w Swept k h = bits_at_read 4 w.flags.items k h
+
+changed : (b : ℕ) (xs : List ℕ) (k v : ℕ) (on : Bool) → (bit_at v b == 1) ≡ on → bits_at b (set xs k v) ≡ set (bits_at b xs) k on
+unfolding bits_at
+changed b xs k v on e = map-set (λ (n : ℕ). bit_at n b == 1) xs k v ∙ ap (λ (x : Bool). set (map (λ (n : ℕ). bit_at n b == 1) xs) k x) e
+
+kept_so : (b : ℕ) (xs : List ℕ) (k v : ℕ) → bit_at v b ≡ bit_at (get_or xs k 0) b → bits_at b (set xs k v) ≡ bits_at b xs
+unfolding bits_at
+kept_so b xs k v e = map-set_same (λ (n : ℕ). bit_at n b == 1) xs k v 0 (ap (λ (x : ℕ). x == 1) e)
+
+-- one byte is written, with one bit changed
+pub plane_written : (w : Inside) (p : Plane) (k v : ℕ) (on : Bool) → (bit_at v (bit_number p) == 1) ≡ on
+    → ((i : ℕ) → i < 8 → i ≢ bit_number p → bit_at v i ≡ bit_at (get_or w.flags.items k 0) i)
+    → grid_of (record w { flags = with_item w.flags k v }) ≡ with_plane (grid_of w) p (set (plane_of (grid_of w) p) k on)
+plane_written w Kept k v on e others =
+    let xs = w.flags.items in
+    cc (
+      changed 0 xs k v on e,
+      kept_so 1 xs k v (others 1 (omega arith) (omega arith)),
+      kept_so 2 xs k v (others 2 (omega arith) (omega arith)),
+      kept_so 3 xs k v (others 3 (omega arith) (omega arith)),
+      kept_so 4 xs k v (others 4 (omega arith) (omega arith)),
+    )
+plane_written w Allowed k v on e others =
+    let xs = w.flags.items in
+    cc (
+      changed 1 xs k v on e,
+      kept_so 0 xs k v (others 0 (omega arith) (omega arith)),
+      kept_so 2 xs k v (others 2 (omega arith) (omega arith)),
+      kept_so 3 xs k v (others 3 (omega arith) (omega arith)),
+      kept_so 4 xs k v (others 4 (omega arith) (omega arith)),
+    )
+plane_written w Pass k v on e others =
+    let xs = w.flags.items in
+    cc (
+      changed 2 xs k v on e,
+      kept_so 0 xs k v (others 0 (omega arith) (omega arith)),
+      kept_so 1 xs k v (others 1 (omega arith) (omega arith)),
+      kept_so 3 xs k v (others 3 (omega arith) (omega arith)),
+      kept_so 4 xs k v (others 4 (omega arith) (omega arith)),
+    )
+plane_written w Visited k v on e others =
+    let xs = w.flags.items in
+    cc (
+      changed 3 xs k v on e,
+      kept_so 0 xs k v (others 0 (omega arith) (omega arith)),
+      kept_so 1 xs k v (others 1 (omega arith) (omega arith)),
+      kept_so 2 xs k v (others 2 (omega arith) (omega arith)),
+      kept_so 4 xs k v (others 4 (omega arith) (omega arith)),
+    )
+plane_written w Swept k v on e others =
+    let xs = w.flags.items in
+    cc (
+      changed 4 xs k v on e,
+      kept_so 0 xs k v (others 0 (omega arith) (omega arith)),
+      kept_so 1 xs k v (others 1 (omega arith) (omega arith)),
+      kept_so 2 xs k v (others 2 (omega arith) (omega arith)),
+      kept_so 3 xs k v (others 3 (omega arith) (omega arith)),
+    )
+
+-- what `get` says, from what its steps gave
+pub read_at : (w : Inside) (g : Grid) (p : Plane) (c : Cell) (k n b : ℕ) (r : Bool) → grid_of w ≡ g → k < length w.flags.items → k ≡ place_of w.frame c
+    → n ≡ get_or w.flags.items k n → b ≡ bit_number p → r ≡ (bit_at n b == 1) → r ≡ get_or (plane_of g p) (place_of g.frame c) false
+read_at w g p c k n b r view below place byte bit e =
+    let zero_default : get_or w.flags.items k n ≡ get_or w.flags.items k 0 = get_or_default w.flags.items k n 0 below in
+    let first : r ≡ get_or (plane_of (grid_of w) p) (place_of w.frame c) false =
+    e ∙ ap (λ (x : ℕ). bit_at n x == 1) bit ∙ ap (λ (x : ℕ). bit_at x (bit_number p) == 1) (byte ∙ zero_default) ∙ plane_read w p k below
+    ∙ ap (λ (x : ℕ). get_or (plane_of (grid_of w) p) x false) place in
+    first ∙ ap (λ (x : Grid). get_or (plane_of x p) (place_of x.frame c) false) view
+
+pub write_at : (w : Inside) (g : Grid) (p : Plane) (c : Cell) (k n b v : ℕ) (on : Bool) → grid_of w ≡ g → k < length w.flags.items → k ≡ place_of w.frame c
+    → n ≡ get_or w.flags.items k n → b ≡ bit_number p → (bit_at v b == 1) ≡ on → ((i : ℕ) → i < 8 → i ≢ b → bit_at v i ≡ bit_at n i)
+    → grid_of (record w { flags = with_item w.flags k v }) ≡ with_plane g p (set (plane_of g p) (place_of g.frame c) on)
+write_at w g p c k n b v on view below place byte bit same others =
+    let zero_default : n ≡ get_or w.flags.items k 0 = byte ∙ get_or_default w.flags.items k n 0 below in
+    plane_written w p k v on (ap (λ (x : ℕ). bit_at v x == 1) (sym bit) ∙ same)
+    (λ i h ne. others i h (λ e. ne (e ∙ bit)) ∙ ap (λ (x : ℕ). bit_at x i) zero_default)
+    ∙ ap (λ (x : ℕ). with_plane (grid_of w) p (set (plane_of (grid_of w) p) x on)) place
+    ∙ ap (λ (x : Grid). with_plane x p (set (plane_of x p) (place_of x.frame c) on)) view
+
+bits_at_len : (b : ℕ) (xs : List ℕ) → length (bits_at b xs) ≡ length xs
+unfolding bits_at
+bits_at_len b xs = simp length-map
+
+whole_sized : (w : Inside) → IsWhole w → IsSized (grid_of w)
+whole_sized w h = record {
+  kept = bits_at_len 0 w.flags.items ∙ h.flags;
+  allowed = bits_at_len 1 w.flags.items ∙ h.flags;
+  pass = bits_at_len 2 w.flags.items ∙ h.flags;
+  visited = bits_at_len 3 w.flags.items ∙ h.flags;
+  swept = bits_at_len 4 w.flags.items ∙ h.flags;
+  labels = h.labels;
+  clearances = h.clearances;
+  works = h.works;
+  scratch = h.scratch;
+  put = h.put;
+}
+
+pub sized : (w : Inside) (g : Grid) → grid_of w ≡ g → IsWhole w → IsSized g
+sized w g view h = subst IsSized view (whole_sized w h)
+
+map-replicate : {A B : Type 0} (f : A → B) (n : ℕ) (x : A) → map f (replicate n x) ≡ replicate n (f x)
+map-replicate f zero x = refl
+map-replicate f (suc n) x = ap (λ ys. f x ∷ ys) (map-replicate f n x)
+
+bits_at-replicate : (b n : ℕ) → bits_at b (replicate n 0) ≡ replicate n (bit_at 0 b == 1)
+unfolding bits_at
+bits_at-replicate b n = map-replicate (λ (x : ℕ). bit_at x b == 1) n 0
+
+pub blank : (w : Inside) → w.flags.items ≡ replicate (cells_of w.frame) 0 → w.labels.items ≡ replicate (cells_of w.frame) 0
+    → w.clearances.items ≡ replicate (cells_of w.frame) 4294967295 → w.works.items ≡ replicate (cells_of w.frame) 0
+    → w.scratch.items ≡ replicate (scratch_of w.frame) 0 → w.queue ≡ record { waiting = []; put = 0; room = cells_of w.frame } → grid_of w ≡ blank_of w.frame
+blank w f l d k s q =
+    let n = cells_of w.frame in
+    cc (f, l, d, k, s, q, bits_at-replicate 0 n, bits_at-replicate 1 n, bits_at-replicate 2 n, bits_at-replicate 3 n, bits_at-replicate 4 n)
