@@ -1,6 +1,6 @@
 -- What the program does to the copper.
-use Rattle.std.proofs.Common.{◌≡◌, ◌↔◌, ℕ, ℤ, pos, neg_ℤ, ◌+ℤ◌, ◌-ℤ◌, ◌*ℤ◌, ◌≤ℤ◌, ◌<ℤ◌, Bool, true, inl, inr, List, Ok, map, refl, sym, ap, subst, ◌∙◌, arith}
-use Rattle.std.specs.List.{All, Contains}
+use Rattle.std.proofs.Common.{◌≡◌, ◌↔◌, ℤ, pos, neg_ℤ, ◌-ℤ◌, ◌*ℤ◌, ◌≤ℤ◌, ◌<ℤ◌, Bool, true, inl, List, map, refl, sym, subst, arith}
+use Rattle.std.specs.List.{Contains}
 use Rattle.std.proofs.lemmas.List.Elements.{All-contains}
 use borrow.Author.Differences.{ints}
 use Rattle.board_base.specs.declared.places.Point.{Point}
@@ -11,10 +11,8 @@ use Rattle.board_base.specs.Near.{near_of}
 use Rattle.board_base.specs.Contour.{IsContour, guard_of, reach_of}
 use Rattle.shape_parts.specs.declared.shape.Painted.{Painted}
 use Rattle.shape_parts.specs.Cover.{is_dark, is_kept, CoverLaw}
-use Rattle.rs274_sim.specs.Machine.{run_of}
 use Rattle.rs274_sim.specs.Cutter.{nanometre, scaled, under, width_of, IsLow, IsDeep, Sweeps}
 use Rattle.rs274_sim.specs.Runs.{RunsTo}
-use Rattle.mill_program.specs.declared.cuts.Program.{Program}
 use Rattle.mill_program.specs.Conditions.{IsProgram, IsRunnable}
 use Rattle.mill_program.specs.Lines.{lines_of}
 use Rattle.mill_program.specs.Moves.{moves_of, unnumbered}

@@ -1,16 +1,16 @@
 -- The centres of the contour lie within the machine's reach.
-use Rattle.std.proofs.Common.{◌≡◌, ◌↔◌, ℕ, ℤ, pos, neg_ℤ, ◌+ℤ◌, ◌-ℤ◌, ◌*ℤ◌, ◌≤ℤ◌, ◌<ℤ◌, true, List, [], ◌∷◌, Option, Some, None, refl, sym, ap, subst, ◌∙◌, arith}
+use Rattle.std.proofs.Common.{◌≡◌, ◌↔◌, ℤ, pos, neg_ℤ, ◌+ℤ◌, ◌-ℤ◌, ◌*ℤ◌, ◌≤ℤ◌, ◌<ℤ◌, true, List, [], ◌∷◌, Option, Some, None, refl, sym, ap, subst, arith}
 use Rattle.std.specs.Int.{int_div_euclid}
 use Rattle.std.specs.List.{All, Contains}
 use Rattle.std.proofs.lemmas.List.Elements.{All-weaker}
 use borrow.Author.Differences.{ints}
-use Rattle.number_laws.proofs.Ring.{Ex, var, num, add, sub, mul, neg, ring}
-use Rattle.number_laws.proofs.Order.{square_nonneg, square_le, mul_pos, mul_nonneg, mul_le_left, le_trans_ℤ}
+use Rattle.number_laws.proofs.Ring.{var, num, add, sub, mul, ring}
+use Rattle.number_laws.proofs.Order.{square_nonneg, square_le, mul_pos, mul_le_left, le_trans_ℤ}
 use Rattle.number_laws.proofs.Quotients.{rounded_low}
 use Rattle.board_base.specs.declared.places.Point.{Point}
 use Rattle.board_base.specs.declared.places.Cell.{Cell}
 use Rattle.board_base.specs.declared.places.Bounds.{Bounds}
-use Rattle.board_base.specs.Lattice.{IsPitch, IsHalfDiagonal, half_of, middle, centre_of, half_diagonal_of, dist2}
+use Rattle.board_base.specs.Lattice.{half_of, middle, centre_of, half_diagonal_of, dist2}
 use Rattle.board_base.specs.Contour.{reach_of, guard_of}
 use Rattle.board_base.specs.Places.{IsPlace, AreWithin}
 use Rattle.shape_parts.specs.declared.shape.Painted.{Painted}

@@ -5,7 +5,8 @@ use Rattle.std.proofs.lemmas.Grind.{common_steps}
 use Rattle.board_base.specs.Steps.{◌>>=◌}
 use Rattle.fixed_num.specs.Decimal.{Decimal, fraction_of, value_at}
 use Rattle.fixed_num.specs.Spelled.{decimal_of}
-use Rattle.fixed_num.specs.Values.{a_number, not_long, short_of, cut_at}
+use Rattle.fixed_num.specs.Values.{cut_at}
+use Rattle.fixed_num.proofs.ValueLaws.{cut_value}
 use Rattle.fixed_num.specs.declared.number.NumError.{NumError}
 use Rattle.mill_top.specs.Sizes.{is_short, is_wanted, wanted_size, after}
 
@@ -13,15 +14,13 @@ first_of : (a b : Bool) → (a && b) ≡ true → a ≡ true
 first_of true b e = refl
 first_of false b e = e
 
-few : (n : ℕ) → nat_le n 3 ≡ true → nat_lt 18 n ≡ false
+few : (n : ℕ) → nat_le n 3 ≡ true → n ≤ 18
 few n e = grind (arith, common_steps)
 
 -- where bytes spell a short decimal, the value without further digits is there
-pub cut_short : (bytes : List ℕ) (d : Decimal) → decimal_of bytes ≡ Some d → is_short d ≡ true → cut_at 3 bytes ≡ Ok (value_at 3 d)
-unfolding cut_at short_of
+cut_short : (bytes : List ℕ) (d : Decimal) → decimal_of bytes ≡ Some d → is_short d ≡ true → cut_at 3 bytes ≡ Ok (value_at 3 d)
 cut_short bytes d found short =
-    let kept = few (length d.whole) (first_of (nat_le (length d.whole) 3) (nat_le (length (fraction_of d)) 3) short) in
-    rw (found, kept) refl
+    cut_value 3 bytes d found (few (length d.whole) (first_of (nat_le (length d.whole) 3) (nat_le (length (fraction_of d)) 3) short))
 
 value_of : ℤ → Result ℤ NumError → ℤ
 value_of other (Ok v) = v

@@ -45,11 +45,7 @@ fn add_file(
 }
 
 // Adds front.ngc.
-fn add_front(
-    alloc: Global,
-    accepted: &Accepted,
-    files: &mut Vec<OutFile>,
-) -> Result<(), AllocError>
+fn add_front(alloc: Global, accepted: &Accepted, files: &mut Vec<OutFile>) -> Result<(), AllocError>
     requires job { IsJob (accepted.now).job }
     requires within { AreWithin (pos 400000000) (dark_rectangle (accepted.now).painted.items) }
     ensures { OnOk result (Adds (front_part (accepts_of accepted.now)) (outputs_of files.old.items) (outputs_of files.new.items)) }

@@ -4,7 +4,8 @@ use board_base::{MemoryShelf, MemorySink, Role};
 use std::alloc::Global;
 use std::test::Fail;
 
-const TWO_DISCS: &[u8] = b"%FSLAX46Y46*%\n%MOMM*%\n%ADD10C,0.100000*%\nD10*\nX100000Y100000D03*\nX1300000Y100000D03*\nM02*\n";
+const TWO_DISCS: &[u8] =
+    b"%FSLAX46Y46*%\n%MOMM*%\n%ADD10C,0.100000*%\nD10*\nX100000Y100000D03*\nX1300000Y100000D03*\nM02*\n";
 
 const WORDS: [&str; 7] = [
     "mill",
@@ -16,13 +17,23 @@ const WORDS: [&str; 7] = [
     "--zwork=-0.1",
 ];
 
-const HEAD: &str = "G17 G21 G61 G90 G94\nG0 Z10.000000\nM5\nT1 M6\nS10000 M3\nG4 P1.000000\nG0 Z2.000000\n";
+const HEAD: &str =
+    "G17 G21 G61 G90 G94\nG0 Z10.000000\nM5\nT1 M6\nS10000 M3\nG4 P1.000000\nG0 Z2.000000\n";
 
 const FOOT: &str = "G0 Z10.000000\nM5\nM2\n";
 
 // The centres round two discs, row by row.
 const WHOLE_ROW: &[&str] = &[
-    "-0.300000", "-0.100000", "0.100000", "0.300000", "0.500000", "0.900000", "1.100000", "1.300000", "1.500000", "1.700000",
+    "-0.300000",
+    "-0.100000",
+    "0.100000",
+    "0.300000",
+    "0.500000",
+    "0.900000",
+    "1.100000",
+    "1.300000",
+    "1.500000",
+    "1.700000",
 ];
 
 const SIDES: &[&str] = &["-0.300000", "0.500000", "0.900000", "1.700000"];
@@ -36,7 +47,11 @@ fn texts(alloc: Global, words: &[&str]) -> Result<Vec<String>, Fail> {
 }
 
 // The status of a command over one file, and what the sink got.
-fn carried_out(alloc: Global, words: &[&str], shelf: &mut MemoryShelf) -> Result<(Status, Vec<u8>), Fail> {
+fn carried_out(
+    alloc: Global,
+    words: &[&str],
+    shelf: &mut MemoryShelf,
+) -> Result<(Status, Vec<u8>), Fail> {
     let words = texts(alloc, words)?;
     let mut sink = MemorySink::new(alloc);
     let status = run(alloc, &words, shelf, &mut sink);
@@ -51,7 +66,17 @@ fn two_discs(alloc: Global) -> Result<MemoryShelf, Fail> {
 
 fn add_row(text: &mut String, y: &str, row: &[&str]) -> Result<(), Fail> {
     for x in row {
-        for part in ["G0 X", x, " Y", y, "\nG1 Z-0.100000 F100.000000\nG1 X", x, " Y", y, " F200.000000\nG0 Z2.000000\n"] {
+        for part in [
+            "G0 X",
+            x,
+            " Y",
+            y,
+            "\nG1 Z-0.100000 F100.000000\nG1 X",
+            x,
+            " Y",
+            y,
+            " F200.000000\nG0 Z2.000000\n",
+        ] {
             text.push_str(part)?;
         }
     }
@@ -72,7 +97,10 @@ fn two_discs_are_milled(rt: HostRuntime) -> Result<(), Fail> {
     let (status, lines) = carried_out(alloc, &WORDS, &mut shelf)?;
     assert_eq!(rt; status, Status::Done);
     assert_eq!(rt; lines.as_slice(), b"pcbmill: ok\n".as_slice());
-    assert_eq!(rt; shelf.get("front.ngc").ok_or("not written")?, expected.as_bytes());
+    assert_eq!(rt;
+        shelf.get("front.ngc").ok_or("not written")?,
+        expected.as_bytes()
+    );
     Ok(())
 }
 
@@ -145,8 +173,17 @@ fn faults_are_told(rt: HostRuntime) -> Result<(), Fail> {
         kind: GerberKind::NotBuiltYet,
         at: 0,
     };
-    assert_eq!(rt; status, Status::Gerber { role: Role::Front, error });
-    assert_eq!(rt; lines.as_slice(), b"pcbmill: front: NotBuiltYet at 0\n".as_slice());
+    assert_eq!(rt;
+        status,
+        Status::Gerber {
+            role: Role::Front,
+            error
+        }
+    );
+    assert_eq!(rt;
+        lines.as_slice(),
+        b"pcbmill: front: NotBuiltYet at 0\n".as_slice()
+    );
 
     let mut shelf = MemoryShelf::new(alloc);
     shelf.add("a.gbr", &vec![in alloc; b' '; 16_777_217]?)?;

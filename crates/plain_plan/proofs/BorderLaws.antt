@@ -9,9 +9,9 @@ use Rattle.number_laws.proofs.Order.{square_nonneg}
 use Rattle.number_laws.proofs.Ring.{var, sub, mul, ring}
 use Rattle.board_base.specs.declared.places.Cell.{Cell}
 use Rattle.board_base.specs.declared.places.CellBox.{CellBox}
-use Rattle.board_base.specs.Lattice.{dist2, IsBeside}
+use Rattle.board_base.specs.Lattice.{IsInBox, dist2, IsBeside}
 use Rattle.board_base.specs.Contour.{IsAllowed, IsContour}
-use Rattle.plain_plan.specs.Rows.{IsInBox, ListsIn}
+use Rattle.plain_plan.specs.Rows.{ListsIn}
 use Rattle.plain_plan.specs.Plain.{is_clear, moved, are_three_clear, are_nine_clear, is_border, IsNearOne}
 use Rattle.plain_plan.proofs.RowLaws.{same, no_cell, all_from}
 

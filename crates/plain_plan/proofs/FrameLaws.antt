@@ -9,7 +9,7 @@ use Rattle.board_base.specs.declared.places.Point.{Point}
 use Rattle.board_base.specs.declared.places.Cell.{Cell}
 use Rattle.board_base.specs.declared.places.CellBox.{CellBox}
 use Rattle.board_base.specs.declared.places.Bounds.{Bounds}
-use Rattle.board_base.specs.Lattice.{IsPitch, half_of, middle, centre_of, half_diagonal_of}
+use Rattle.board_base.specs.Lattice.{IsInBox, IsPitch, half_of, middle, centre_of, half_diagonal_of}
 use Rattle.board_base.specs.Places.{IsNearPlace, IsWithin}
 use Rattle.shape_parts.specs.declared.shape.Part.{Part}
 use Rattle.shape_parts.specs.declared.shape.Part.TheVariants.{Disc, Capsule}
@@ -19,7 +19,7 @@ use Rattle.shape_parts.specs.Boxes.{half_up, around, hull, widened, part_box, pi
 use Rattle.shape_parts.specs.BoxLaw.{HasSquare, Has}
 use Rattle.shape_parts.specs.Cover.{is_kept}
 use Rattle.copper_cover.specs.Kept.{joined, object_box, dark_rectangle, KeptLaw}
-use Rattle.plain_plan.specs.Rows.{IsInBox, IsBoxWithin, IsIndexed, ListsIn}
+use Rattle.plain_plan.specs.Rows.{IsBoxWithin, IsIndexed, ListsIn}
 use Rattle.plain_plan.specs.Keeps.{keeps, IsUpright, AreUpright, IsFrame}
 use Rattle.plain_plan.proofs.IndexLaws.{low_index, high_index, middle_low, middle_high}
 use Rattle.plain_plan.proofs.RowLaws.{no_cell, all_from}

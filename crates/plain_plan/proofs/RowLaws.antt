@@ -7,7 +7,8 @@ use Rattle.std.proofs.lemmas.List.Elements.{All-nil, All-cons, All-head, All-tai
 use borrow.Author.Differences.{ints}
 use Rattle.board_base.specs.declared.places.Cell.{Cell}
 use Rattle.board_base.specs.declared.places.CellBox.{CellBox}
-use Rattle.plain_plan.specs.Rows.{IsBefore, IsInRows, IsInBox, IsListed, ListsIn}
+use Rattle.board_base.specs.Lattice.{IsInBox}
+use Rattle.plain_plan.specs.Rows.{IsBefore, IsInRows, IsListed, ListsIn}
 
 -- cells with the same column and row are one
 pub same_cell : (i j i' j' : ℤ) → i ≡ i' → j ≡ j' → ◌≡◌ {A = Cell} (record { i = i; j = j }) (record { i = i'; j = j' })

@@ -26,7 +26,7 @@ are_nine_clear kept guard c =
 unfoldable pub is_border : List Cell → ℤ → Cell → Bool
 is_border kept guard c = is_clear kept guard c && not (are_nine_clear kept guard c)
 
--- the cell has a neighbour no farther than the guard from a listed cell
+-- the cell or a neighbour of it is no farther than the guard from a listed cell
 pub record IsNearOne (kept : List Cell) (guard : ℤ) (c : Cell) : Type 0 where
   pub neighbour : Cell
   pub beside : IsBeside c neighbour

@@ -3,6 +3,7 @@ use Rattle.std.specs.Prelude.{◌≡◌, ℕ, ◌⊎◌, ◌↔◌, pos, neg_ℤ
 use Rattle.std.specs.List.{All, Contains}
 use Rattle.board_base.specs.declared.places.Cell.{Cell}
 use Rattle.board_base.specs.declared.places.CellBox.{CellBox}
+use Rattle.board_base.specs.Lattice.{IsInBox}
 
 -- the cell's row is farther south, or it is farther west in one row
 abbrev pub IsBefore : Cell → Cell → Type 0
@@ -12,13 +13,6 @@ IsBefore a b = (a.j <ℤ b.j) ⊎ ((a.j ≡ b.j) × (a.i <ℤ b.i))
 abbrev pub IsInRows : List Cell → Type 0
 IsInRows [] = Unit {0}
 IsInRows (c ∷ cells) = All (IsBefore c) cells × IsInRows cells
-
--- the cell lies in the box, whose ends belong to it
-pub record IsInBox (b : CellBox) (c : Cell) : Type 0 where
-  pub west : b.i0 ≤ℤ c.i
-  pub east : c.i ≤ℤ b.i1
-  pub south : b.j0 ≤ℤ c.j
-  pub north : c.j ≤ℤ b.j1
 
 -- the list has the cells of the box before `to` that pass the test, and no others, in order of rows
 pub record IsListed (test : Cell → Bool) (b : CellBox) (to : Cell) (cells : List Cell) : Type 0 where

@@ -1,9 +1,9 @@
 // The border of the cells that a cutter may visit.
 ghost use Rattle.std.specs.Prelude.{◌≡◌, ◌↔◌, ℤ, pos, negsuc, ◌+ℤ◌, ◌-ℤ◌, ◌*ℤ◌, ◌≤ℤ◌, ◌≤◌, [], IfOk, OnOk, IfSome, IsNone, Bool, true, int_lt, unsigned_abs};
 ghost use Rattle.std.specs.List.{All, Contains};
-ghost use Rattle.board_base.specs.Lattice.{dist2};
+ghost use Rattle.board_base.specs.Lattice.{IsInBox, dist2};
 ghost use Rattle.board_base.specs.Contour.{IsContour};
-ghost use Rattle.plain_plan.specs.Rows.{IsInRows, IsIndexed, IsInBox, IsBoxWithin, IsListed, ListsIn};
+ghost use Rattle.plain_plan.specs.Rows.{IsInRows, IsIndexed, IsBoxWithin, IsListed, ListsIn};
 ghost use Rattle.plain_plan.specs.Plain.{is_clear, are_three_clear, is_border, IsNearOne, moved as moved_of};
 
 use crate::frame::{box_round, grown, push_if};

@@ -1,7 +1,8 @@
 // Boxes of cells, and lists of what passes in them.
 ghost use Rattle.std.specs.Prelude.{◌≡◌, ◌↔◌, ℤ, pos, ◌+ℤ◌, ◌-ℤ◌, ◌≤ℤ◌, ◌++◌, [], ◌∷◌, IfSome, IsNone, OnOk, cond};
 ghost use Rattle.std.specs.List.{All};
-ghost use Rattle.plain_plan.specs.Rows.{IsIndexed, IsInBox, IsBoxWithin};
+ghost use Rattle.board_base.specs.Lattice.{IsInBox};
+ghost use Rattle.plain_plan.specs.Rows.{IsIndexed, IsBoxWithin};
 
 use board_base::{Cell, CellBox};
 use std::alloc::AllocError;

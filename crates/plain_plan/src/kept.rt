@@ -2,11 +2,11 @@
 ghost use Rattle.std.specs.Prelude.{◌≡◌, ◌↔◌, ℤ, pos, ◌+ℤ◌, ◌≤ℤ◌, ◌≤◌, IfOk, OnOk, true, unsigned_abs};
 ghost use Rattle.std.specs.Int.{int_div_euclid};
 ghost use Rattle.std.specs.List.{All, Contains};
-ghost use Rattle.board_base.specs.Lattice.{IsPitch, centre_of, half_diagonal_of};
+ghost use Rattle.board_base.specs.Lattice.{IsInBox, IsPitch, centre_of, half_diagonal_of};
 ghost use Rattle.board_base.specs.Places.{IsNearPlace, IsWithin, AreWithin};
 ghost use Rattle.shape_parts.specs.Cover.{is_kept as is_kept_of};
 ghost use Rattle.copper_cover.specs.Kept.{dark_rectangle as dark_rectangle_of};
-ghost use Rattle.plain_plan.specs.Rows.{IsInRows, IsIndexed, IsInBox, IsBoxWithin, IsListed, ListsIn};
+ghost use Rattle.plain_plan.specs.Rows.{IsInRows, IsIndexed, IsBoxWithin, IsListed, ListsIn};
 ghost use Rattle.plain_plan.specs.Keeps.{keeps, IsUpright, IsFrame};
 
 use crate::frame::push_if;

@@ -24,11 +24,23 @@ fn a_folder_keeps_what_is_written(rt: HostRuntime) -> Result<(), Fail> {
     let alloc = rt.alloc();
     let mut shelf = FolderShelf::new(&rt);
     assert_eq!(rt; shelf.write("folder-shelf.txt", b"abc"), Ok(()));
-    let read = shelf.read(alloc, "folder-shelf.txt", 3).ok().ok_or("refused")?;
+    let read = shelf
+        .read(alloc, "folder-shelf.txt", 3)
+        .ok()
+        .ok_or("refused")?;
     assert_eq!(rt; read.as_slice(), b"abc".as_slice());
-    assert_eq!(rt; shelf.read(alloc, "folder-shelf.txt", 2).err(), Some(ShelfError::TooLong));
-    assert_eq!(rt; shelf.read(alloc, "no-such-file.txt", 3).err(), Some(ShelfError::Failed));
-    assert_eq!(rt; shelf.write("no-such-folder/a.txt", b"abc"), Err(ShelfError::Failed));
+    assert_eq!(rt;
+        shelf.read(alloc, "folder-shelf.txt", 2).err(),
+        Some(ShelfError::TooLong)
+    );
+    assert_eq!(rt;
+        shelf.read(alloc, "no-such-file.txt", 3).err(),
+        Some(ShelfError::Failed)
+    );
+    assert_eq!(rt;
+        shelf.write("no-such-folder/a.txt", b"abc"),
+        Err(ShelfError::Failed)
+    );
     assert_eq!(rt; (shelf.read_faults, shelf.write_faults), (1, 1));
     assert_eq!(rt; (shelf.taken, shelf.writes), (6, 2));
     fs::remove_file(&rt, "folder-shelf.txt")?;

@@ -1,4 +1,3 @@
-use Rattle.std.proofs.Common.{◌≡◌, ℕ, ◌≤◌, arith, rules}
 use Rattle.mill_plan.proofs.GuardLaws.{ratio_size}
 use Rattle.mill_plan.proofs.isolation.square_ratio.Goals as goal
 

@@ -2,7 +2,7 @@ use Rattle.std.proofs.Common.{◌≤◌, arith, take, length, sym, subst, List, 
 use Rattle.std.proofs.lemmas.List.{take_all}
 use Rattle.std.proofs.lemmas.List.Elements.{All-same, All-more, All-weaker}
 use Rattle.board_base.specs.declared.places.Cell.{Cell}
-use Rattle.plain_plan.specs.Rows.{IsInBox}
+use Rattle.board_base.specs.Lattice.{IsInBox}
 use Rattle.plain_plan.proofs.frame.box_round.Goals as goal
 
 pub returns-clause-holds : goal.returns-clause-holds

@@ -1,6 +1,7 @@
 use Rattle.std.proofs.Common.{take}
 use Rattle.std.specs.List.{All}
-use Rattle.plain_plan.specs.Rows.{IsInBox, IsBoxWithin}
+use Rattle.board_base.specs.Lattice.{IsInBox}
+use Rattle.plain_plan.specs.Rows.{IsBoxWithin}
 use Rattle.plain_plan.proofs.frame.box_round.Given as goal
 
 abbrev pub invariant-cells : goal.invariant-cells

@@ -2,7 +2,7 @@ use Rattle.std.proofs.Common.{ℤ, pos, ◌+ℤ◌, refl, arith, rules}
 use Rattle.std.proofs.lemmas.Int.{ints, to_z-of_z}
 use mir.Syntax.{w32, w64}
 use mir.Val.{SFits, to_z}
-use Rattle.plain_plan.specs.Rows.{IsInBox}
+use Rattle.board_base.specs.Lattice.{IsInBox}
 use Rattle.plain_plan.specs.Keeps.{keeps}
 use Rattle.plain_plan.proofs.RowLaws.{listed_step, row_over}
 use Rattle.plain_plan.proofs.kept.add_row.Goals as goal
