@@ -38,30 +38,35 @@ impl Model for Workbench {
     ghost invariant = { IsWhole };
 }
 
+// So many bytes without a bit set.
 fn zero_bytes(alloc: Global, n: usize) -> Result<Vec<u8>, AllocError>
     ensures { IfOk result (λ v. v.items ≡ replicate n 0) }
 {
     vec![in alloc; 0; n]
 }
 
+// So many labels 0.
 fn zero_labels(alloc: Global, n: usize) -> Result<Vec<u16>, AllocError>
     ensures { IfOk result (λ v. v.items ≡ replicate n 0) }
 {
     vec![in alloc; 0; n]
 }
 
+// So many clearances without a bound.
 fn far(alloc: Global, n: usize) -> Result<Vec<u32>, AllocError>
     ensures { IfOk result (λ v. v.items ≡ replicate n 4294967295) }
 {
     vec![in alloc; u32::MAX; n]
 }
 
+// So many working labels 0.
 fn zero_works(alloc: Global, n: usize) -> Result<Vec<u32>, AllocError>
     ensures { IfOk result (λ v. v.items ≡ replicate n 0) }
 {
     vec![in alloc; 0; n]
 }
 
+// So many scratch numbers 0.
 fn zero_numbers(alloc: Global, n: usize) -> Result<Vec<u64>, AllocError>
     ensures { IfOk result (λ v. v.items ≡ replicate n 0) }
 {

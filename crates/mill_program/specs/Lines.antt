@@ -69,6 +69,7 @@ end_line = code M 2 ∷ []
 
 -- ---- programs
 
+-- a line of these words
 abbrev pub words : List Word → Line
 words ws = record { words = ws }
 

@@ -74,13 +74,15 @@ S = 83
 abbrev pub T : ℕ
 T = 84
 
--- the three axes
+-- the axis X
 abbrev pub X : ℕ
 X = 88
 
+-- the axis Y
 abbrev pub Y : ℕ
 Y = 89
 
+-- the axis Z
 abbrev pub Z : ℕ
 Z = 90
 
@@ -250,6 +252,7 @@ in_range words =
     passes X in_reach words && passes Y in_reach words && passes Z in_reach words
     && passes F (within (pos 0) (pos (100000 * one))) words && passes P (int_le (pos 0)) words && passes T (is_count 9999) words
 
+-- a motion at the feed
 abbrev pub is_feed : Option MoveKind → Bool
 is_feed (Some Feed) = true
 is_feed kind = false
