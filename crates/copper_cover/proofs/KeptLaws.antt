@@ -7,11 +7,12 @@ use Rattle.board_base.specs.declared.places.Point.{Point}
 use Rattle.board_base.specs.declared.places.Bounds.{Bounds}
 use Rattle.shape_parts.specs.declared.shape.Painted.{Painted}
 use Rattle.shape_parts.specs.Shapes.{shape_touches, shape_covers}
-use Rattle.shape_parts.specs.Boxes.{hull, shape_box}
+use Rattle.shape_parts.specs.Boxes.{hull, shape_box, AreBounds}
 use Rattle.shape_parts.specs.BoxLaw.{Has}
 use Rattle.shape_parts.specs.Cover.{is_kept}
 use Rattle.shape_parts.proofs.Standing.{first_true, second_true, either}
 use Rattle.shape_parts.proofs.BoxLaws.{box_law_holds}
+use Rattle.shape_parts.proofs.BoundsLaws.{hull_bounds}
 use Rattle.copper_cover.specs.Kept.{joined, object_box, dark_rectangle, KeptLaw}
 
 low_left : (a m x s : ℤ) → (a +ℤ s) ≤ℤ x → (int_min a m +ℤ s) ≤ℤ x
@@ -77,6 +78,12 @@ kept_in c h (o ∷ os) w h_in e =
 
 pub kept_law_holds : KeptLaw
 kept_law_holds c h painted h_in e = kept_in c h painted None h_in e
+
+-- two rectangles whose ends are in order give one
+pub joined_bounds : (a b : Option Bounds) → AreBounds a → AreBounds b → AreBounds (joined a b)
+joined_bounds None b h k = k
+joined_bounds (Some a) None h k = h
+joined_bounds (Some a) (Some b) h k = hull_bounds a b h k
 
 -- a fold over one member more
 fold-append_one : {A B : Type 0} (f : B → A → B) (b : B) (xs : List A) (x : A) → fold f b (xs ++ x ∷ []) ≡ f (fold f b xs) x

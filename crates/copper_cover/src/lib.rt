@@ -6,7 +6,7 @@
 ghost use Rattle.std.specs.Prelude.{◌≡◌, ℤ, pos, ◌≤ℤ◌, ◌<ℤ◌, Bool, not, ◌&&◌, ◌||◌, Option};
 ghost use Rattle.board_base.specs.Places.{IsNearPlace};
 ghost use Rattle.shape_parts.specs.Shapes.{shape_touches, shape_covers};
-ghost use Rattle.shape_parts.specs.Boxes.{hull as hull_of};
+ghost use Rattle.shape_parts.specs.Boxes.{hull as hull_of, AreBounds};
 ghost use Rattle.shape_parts.specs.Cover.{is_kept as is_kept_of};
 ghost use Rattle.copper_cover.specs.Kept.{joined as joined_of, object_box, dark_rectangle as dark_rectangle_of, KeptLaw};
 
@@ -53,7 +53,10 @@ pub fn is_kept(painted: &Vec<Painted>, c: Point, h: i64) -> bool
 
 // The least rectangle that holds both, where there are two.
 fn joined(a: Option<Bounds>, b: Option<Bounds>) -> Option<Bounds>
-    ensures { result ≡ joined_of a b }
+    requires a { AreBounds a }
+    requires b { AreBounds b }
+    ensures value { result ≡ joined_of a b }
+    ensures bounds { AreBounds result }
 {
     match a {
         None => b,
@@ -66,7 +69,9 @@ fn joined(a: Option<Bounds>, b: Option<Bounds>) -> Option<Bounds>
 
 // The rectangle grown by a dark object.
 fn with_object(to: Option<Bounds>, object: &Painted) -> Option<Bounds>
-    ensures { result ≡ object_box to object.now }
+    requires { AreBounds to }
+    ensures value { result ≡ object_box to object.now }
+    ensures bounds { AreBounds result }
 {
     if object.dark {
         joined(to, object.shape.bounds())
@@ -77,7 +82,8 @@ fn with_object(to: Option<Bounds>, object: &Painted) -> Option<Bounds>
 
 /// The rectangle round all dark objects, or none where nothing dark has a width.
 pub fn dark_rectangle(painted: &Vec<Painted>) -> Option<Bounds>
-    ensures { result ≡ dark_rectangle_of painted.now.items }
+    ensures value { result ≡ dark_rectangle_of painted.now.items }
+    ensures bounds { AreBounds result }
 {
     let mut all = None;
     'objects: for object in painted {

@@ -1,5 +1,5 @@
 -- The rectangle round a shape.
-use Rattle.std.specs.Prelude.{ℤ, pos, ◌+ℤ◌, ◌-ℤ◌, int_lt, cond, List, Option, Some, None}
+use Rattle.std.specs.Prelude.{ℤ, pos, ◌≤ℤ◌, ◌+ℤ◌, ◌-ℤ◌, int_lt, cond, List, Option, Some, None}
 use Rattle.std.specs.List.{fold}
 use Rattle.std.specs.Int.{int_div_euclid, int_min, int_max}
 use Rattle.board_base.specs.declared.places.Point.{Point}
@@ -7,6 +7,7 @@ use Rattle.shape_parts.specs.declared.shape.Part.{Part}
 use Rattle.shape_parts.specs.declared.shape.Part.TheVariants.{Disc, Capsule}
 use Rattle.shape_parts.specs.declared.shape.Piece.{Piece}
 use Rattle.board_base.specs.declared.places.Bounds.{Bounds}
+use Rattle.board_base.specs.Places.{IsWithin}
 
 -- half of a width, rounded up
 unfoldable pub half_up : ℤ → ℤ
@@ -37,3 +38,14 @@ piece_box box p = cond p.on (part_box box p.part) box
 -- the rectangle round all pieces that are on
 abbrev pub shape_box : List Piece → Option Bounds
 shape_box pieces = fold piece_box None pieces
+
+-- a rectangle within a metre of the origin, whose west end isn't past the east end, nor the south end past the north end
+pub record IsBounds (b : Bounds) : Type 0 where
+  pub within : IsWithin (pos 1000000000) b
+  pub across : b.x0 ≤ℤ b.x1
+  pub up : b.y0 ≤ℤ b.y1
+
+-- the same of a rectangle, where there is one
+abbrev pub AreBounds : Option Bounds → Type 0
+AreBounds None = Unit {0}
+AreBounds (Some b) = IsBounds b

@@ -3,7 +3,7 @@ use Rattle.std.specs.List.{HoldsAt}
 use Rattle.std.specs.Prelude.{ℕ, List, ℤ, pos, ◌+ℤ◌, ◌-ℤ◌, ◌*ℤ◌, ◌≤ℤ◌, int_lt, Bool, ◌&&◌}
 use Rattle.board_base.specs.declared.places.Point.{Point}
 use Rattle.board_base.specs.Near.{near_of}
-use Rattle.board_base.specs.Places.{IsNearPlace}
+use Rattle.board_base.specs.Places.{IsPlace}
 use Rattle.shape_parts.specs.declared.shape.Part.{Part}
 use Rattle.shape_parts.specs.declared.shape.Piece.{Piece}
 use Rattle.shape_parts.specs.declared.shape.Part.TheVariants.{Disc, Capsule}
@@ -42,8 +42,8 @@ pub record IsWidth (d : ℤ) : Type 0 where
 
 -- a part that a shape may hold
 abbrev pub IsPart : Part → Type 0
-IsPart (Disc c d) = IsNearPlace c × IsWidth d
-IsPart (Capsule a b d) = IsNearPlace a × IsNearPlace b × IsWidth d
+IsPart (Disc c d) = IsPlace c × IsWidth d
+IsPart (Capsule a b d) = IsPlace a × IsPlace b × IsWidth d
 
 -- a piece that a shape may hold
 abbrev pub IsPiece : Piece → Type 0

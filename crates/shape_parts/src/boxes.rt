@@ -2,7 +2,7 @@
 ghost use Rattle.std.specs.Prelude.{◌≡◌, ℤ, ℕ, pos, ◌+ℤ◌, ◌-ℤ◌, ◌≤ℤ◌, ◌<ℤ◌, int_lt, List, Option, Some, None, cond};
 ghost use Rattle.std.specs.List.{All};
 ghost use Rattle.std.specs.Int.{int_min, int_max};
-ghost use Rattle.board_base.specs.Places.{IsNearPlace};
+ghost use Rattle.board_base.specs.Places.{IsPlace};
 ghost use Rattle.shape_parts.specs.Parts.{IsPart, IsPiece, IsWidth};
 ghost use Rattle.shape_parts.specs.Boxes.{half_up as half_up_of, around as around_of, hull as hull_of, widened as widened_of, part_box, piece_box, shape_box};
 
@@ -29,7 +29,7 @@ fn half_up(d: i64) -> i64
     requires { IsWidth d }
     ensures value { result ≡ half_up_of d }
     ensures low { pos 0 ≤ℤ result }
-    ensures high { result ≤ℤ pos 500000001 }
+    ensures high { result ≤ℤ pos 500000000 }
 {
     (d + 1).div_euclid(2)
 }
@@ -37,9 +37,9 @@ fn half_up(d: i64) -> i64
 // The square of half side `r` round `p`.
 #[tactic(auto, unfolding(crate::specs::Boxes::around))]
 fn around(p: Point, r: i64) -> Bounds
-    requires p { IsNearPlace p }
+    requires p { IsPlace p }
     requires r_low { pos 0 ≤ℤ r }
-    requires r_high { r ≤ℤ pos 500000001 }
+    requires r_high { r ≤ℤ pos 500000000 }
     ensures x0 { result.x0 ≡ (around_of p r).x0 }
     ensures y0 { result.y0 ≡ (around_of p r).y0 }
     ensures x1 { result.x1 ≡ (around_of p r).x1 }
@@ -71,9 +71,9 @@ pub fn hull(a: Bounds, b: Bounds) -> Bounds
 
 // A rectangle, or none yet, grown by the square round a point.
 fn widened(r: i64, to: Option<Bounds>, p: Point) -> Option<Bounds>
-    requires p { IsNearPlace p }
+    requires p { IsPlace p }
     requires r_low { pos 0 ≤ℤ r }
-    requires r_high { r ≤ℤ pos 500000001 }
+    requires r_high { r ≤ℤ pos 500000000 }
     ensures { result ≡ widened_of r to p }
 {
     match to {

@@ -2,7 +2,7 @@
 ghost use Rattle.std.specs.Prelude.{◌≡◌, List, map, IfOk};
 ghost use Rattle.std.specs.List.{All};
 ghost use Rattle.shape_parts.specs.Parts.{IsPart, IsPiece};
-ghost use Rattle.board_base.specs.Places.{IsNearPlace};
+ghost use Rattle.board_base.specs.Places.{IsPlace};
 ghost use Rattle.shape_parts.specs.Mirror.{mirrored as mirrored_of, mirrored_part as mirrored_part_of, mirrored_piece, mirrored_object};
 
 use crate::shape::{Painted, Part, Piece};
@@ -12,9 +12,9 @@ use std::alloc::{AllocError, Global};
 // The point on the other side of the y axis.
 #[tactic(auto, unfolding(crate::specs::Mirror::mirrored))]
 fn mirrored(p: Point) -> Point
-    requires { IsNearPlace p }
+    requires { IsPlace p }
     ensures value { result ≡ mirrored_of p }
-    ensures place { IsNearPlace result }
+    ensures place { IsPlace result }
 {
     Point { x: -p.x, y: p.y }
 }

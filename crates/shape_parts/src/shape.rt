@@ -6,7 +6,7 @@ ghost use Rattle.board_base.specs.Lattice.{centre_of, half_diagonal_of, IsPitch,
 ghost use Rattle.shape_parts.specs.Parts.{IsPart, IsPiece, HoldsPiece};
 ghost use Rattle.shape_parts.specs.Shapes.{shape_holds, shape_touches, shape_covers};
 ghost use Rattle.shape_parts.specs.Mirror.{mirrored_piece};
-ghost use Rattle.shape_parts.specs.Boxes.{shape_box};
+ghost use Rattle.shape_parts.specs.Boxes.{shape_box, AreBounds};
 ghost use Rattle.shape_parts.specs.Cover.{is_dark as is_dark_of};
 
 use crate::boxes::box_round;
@@ -149,7 +149,8 @@ impl Shape {
 
     /// The rectangle round all on parts, or none where no on part has a width.
     pub fn bounds(&self) -> Option<Bounds>
-        ensures { result ≡ shape_box self.now }
+        ensures value { result ≡ shape_box self.now }
+        ensures bounds { AreBounds result }
     {
         box_round(&self.pieces)
     }
