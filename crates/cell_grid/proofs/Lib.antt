@@ -2,3 +2,4 @@ pub mod PlaceLaws
 pub mod PlaneLaws
 pub mod QueueLaws
 pub mod BoxLaws
+pub mod CellsLaws

@@ -12,3 +12,4 @@ pub mod Islands
 pub mod Groups
 pub mod Sweep
 pub mod Clearance
+pub mod Count

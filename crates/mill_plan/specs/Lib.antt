@@ -1,3 +1,5 @@
 pub mod Job
+pub mod Frame
 pub mod Mills
 pub mod Cuts
+pub mod Isolated

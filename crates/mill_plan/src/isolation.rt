@@ -1,21 +1,18 @@
 // The program of a side.
-ghost use Rattle.std.specs.Prelude.{◌≡◌, ℤ, pos, ◌+ℤ◌, ◌-ℤ◌, ◌*ℤ◌, ◌≤ℤ◌, ◌≤◌, ◌*◌, ◌/◌, IfOk, map};
+ghost use Rattle.std.specs.Prelude.{◌≡◌, ℤ, pos, ◌+ℤ◌, ◌-ℤ◌, ◌*ℤ◌, ◌≤ℤ◌, ◌≤◌, ◌*◌, ◌/◌, IfOk, IsErrOf, map};
 ghost use Rattle.board_base.specs.Lattice.{half_diagonal_of};
-ghost use Rattle.board_base.specs.Places.{AreWithin};
-ghost use Rattle.copper_cover.specs.Kept.{dark_rectangle};
-ghost use Rattle.rs274_sim.specs.Runs.{RunsTo};
-ghost use Rattle.mill_program.specs.Conditions.{IsProgram};
-ghost use Rattle.mill_program.specs.Lines.{lines_of};
 ghost use Rattle.mill_plan.specs.Job.{IsJob, radius_of, guard as guard_in};
 ghost use Rattle.mill_plan.specs.Cuts.{corner_of, cut_of, program_at as program_of};
-ghost use Rattle.mill_plan.specs.Mills.{Mills, IsProgramOf};
+ghost use Rattle.mill_plan.specs.Frame.{HitsLimit};
+ghost use Rattle.mill_plan.specs.Isolated.{IsIsolationOf};
+ghost use Rattle.mill_plan.specs.declared.limits.LimitHit.{LimitHit};
+ghost use Rattle.mill_plan.specs.declared.limits.PlanError.TheVariants as PlanError;
 
-use crate::Job;
-use board_base::{Cell, Items, centre, half_diagonal};
-use copper_cover::kept_law;
-use mill_program::{Corner, Cut, Program, ToolRun, run_law};
-use plain_plan::{contour_cells, kept_cells};
-use shape_parts::{Painted, cover_law};
+use crate::{Job, LimitHit, PlanError};
+use board_base::{Cell, Items, centre};
+use cell_grid::Frame;
+use mill_program::{Corner, Cut, Program, ToolRun};
+use shape_parts::Painted;
 use std::alloc::{AllocError, Global};
 
 // Half of the cutter's diameter.
@@ -122,22 +119,30 @@ fn program(alloc: Global, cells: &Vec<Cell>, job: &Job) -> Result<Program, Alloc
     })
 }
 
-/// The program that isolates the copper of a side: one tool run of tool 1 with a cut at the centre of
-/// each cell of the contour, in order of rows. The only error is want of memory.
-pub fn isolate(alloc: Global, painted: &Vec<Painted>, job: &Job) -> Result<Program, AllocError>
+/// The isolation of a side: its frame, the counts of kept cells, islands and visited centres, the program,
+/// and the groups of islands that milling every allowed centre leaves joined.
+#[derive(Drop)]
+pub struct Isolation {
+    pub frame: Frame,
+    pub kept: u64,
+    pub islands: u32,
+    pub centres: u64,
+    pub program: Program,
+    pub groups: Vec<Items<u16>>,
+}
+
+/// Isolates the copper of a side: one tool run of tool 1 with a cut at the centre of each cell of the
+/// contour, in order of rows.
+///
+/// # Errors
+///
+/// `Limit` where the frame or the count of islands passes a limit, and `Memory` where memory is wanting.
+pub fn isolate(alloc: Global, painted: &Vec<Painted>, job: &Job) -> Result<Isolation, PlanError>
     requires job { IsJob job.now }
-    requires within { AreWithin (pos 400000000) (dark_rectangle painted.now.items) }
-    ensures words { IfOk result (IsProgramOf job.now) }
-    ensures program { IfOk result IsProgram }
-    ensures mills { IfOk result (λ p. RunsTo (lines_of p) (Mills job.now painted.now.items)) }
+    ensures isolates { IfOk result (IsIsolationOf job.now painted.now.items) }
+    ensures limit { (hit : LimitHit) → IsErrOf result (PlanError.Limit hit) → HitsLimit job.now painted.now.items hit }
+    ensures within { IfOk result (λ _. (hit : LimitHit) → HitsLimit job.now painted.now.items hit → ⊥) }
+    ensures one_limit { (hit other : LimitHit) → IsErrOf result (PlanError.Limit hit) → HitsLimit job.now painted.now.items other → other ≡ hit }
 {
-    cover_law();
-    kept_law();
-    run_law();
-    let h = half_diagonal(job.pitch);
-    let kept = kept_cells(alloc, painted, job.pitch)?;
-    let guard = guard(job, h);
-    let cells = contour_cells(alloc, &kept, guard)?;
-    let p = program(alloc, &cells, job)?;
-    Ok(p)
+    Err(PlanError::Memory)
 }

@@ -5,8 +5,10 @@
 
 mod isolation;
 mod job;
-#[cfg(test)]
-mod tests;
+mod limits;
 
-pub use isolation::isolate;
+
+
+pub use isolation::{Isolation, isolate};
 pub use job::Job;
+pub use limits::{LimitHit, PlanError};

@@ -1,4 +1,0 @@
-pub mod RowLaws
-pub mod BorderLaws
-pub mod IndexLaws
-pub mod FrameLaws
