@@ -1,0 +1,4 @@
+pub mod Links
+pub mod Barriers
+pub mod Sweeps
+pub mod Counts
