@@ -1,8 +1,15 @@
 -- What the program does to the copper.
-use Rattle.std.proofs.Common.{◌≡◌, ◌↔◌, ℤ, pos, neg_ℤ, ◌-ℤ◌, ◌*ℤ◌, ◌≤ℤ◌, ◌<ℤ◌, Bool, true, inl, List, map, refl, sym, subst, arith}
+use Rattle.std.proofs.Common.{◌≡◌, ◌↔◌, ℤ, pos, neg_ℤ, ◌-ℤ◌, ◌*ℤ◌, ◌≤ℤ◌, ◌<ℤ◌, Bool, true, unsigned_abs, ap, ◌∙◌, ◌+ℤ◌, inl, List, [], ◌∷◌, map, refl, sym, subst, arith}
 use Rattle.std.specs.List.{Contains}
 use Rattle.std.proofs.lemmas.List.Elements.{All-contains}
+use Rattle.std.specs.Int.{int_div_euclid}
+use Rattle.std.proofs.lemmas.Int.{by_lt_z}
 use borrow.Author.Differences.{ints}
+use Rattle.number_laws.proofs.Ring.{var, num, add, mul, ring}
+use Rattle.number_laws.proofs.Order.{square_nonneg, mul_pos, mul_le_left}
+use Rattle.number_laws.proofs.Quotients.{rounded_low, rounded_high}
+use Rattle.plane_geom.specs.NearStep.{length2}
+use Rattle.separation_laws.specs.Reached.{IsReachedFrom, in_unit, ScaledSweep}
 use Rattle.board_base.specs.declared.places.Point.{Point}
 use Rattle.board_base.specs.declared.places.Cell.{Cell}
 use Rattle.board_base.specs.declared.places.Move.{Move}
@@ -19,9 +26,10 @@ use Rattle.mill_program.specs.Moves.{moves_of, unnumbered}
 use Rattle.mill_program.specs.RunLaw.{RunLaw}
 use Rattle.mill_plan.specs.declared.job.Job.{Job}
 use Rattle.mill_plan.specs.Job.{IsJob, radius_of, bite_of, guard, keeps}
+use Rattle.mill_plan.specs.Frame.{sweep_of}
 use Rattle.mill_plan.specs.Cuts.{corner_of, run_at, program_at}
 use Rattle.mill_plan.specs.Mills.{Mills}
-use Rattle.mill_plan.proofs.PointLaws.{unscaled, on_itself, apart, same_cell}
+use Rattle.mill_plan.proofs.PointLaws.{point_near, unscaled, on_itself, apart, same_cell}
 use Rattle.mill_plan.proofs.MoveLaws.{StaysOver, IsGuarded, deep_step, moves_guarded, moves_there, numbered, from_numbered, at_corner}
 
 -- a low move of the run stays over a centre
@@ -63,9 +71,60 @@ deep_on_spot : (job : Job) (cells : List Cell) (c : Cell) → Sweeps (deep_step 
 deep_on_spot job cells c =
     subst (λ b. near_of (scaled (centre_of job.pitch c)) b b (width_of (pos 0)) ≡ true) (sym (at_corner job c)) (on_itself (centre_of job.pitch c))
 
-pub mills : (job : Job) (painted : List Painted) (cells : List Cell) (moves : List Move) → IsJob job → IsHalfDiagonal job.pitch (half_diagonal_of job.pitch) → CoverLaw
+-- the sweep of the job isn't past the radius less half a diagonal
+sweep_low : (job : Job) → IsJob job → (pos (sweep_of job) *ℤ (job.pitch *ℤ job.pitch)) ≤ℤ ((radius_of job -ℤ half_diagonal_of job.pitch) *ℤ (radius_of job -ℤ half_diagonal_of job.pitch))
+unfolding sweep_of
+sweep_low job ok =
+    let x : ℤ = radius_of job -ℤ half_diagonal_of job.pitch in
+    let d : ℤ = job.pitch *ℤ job.pitch in
+    let wide : pos 0 <ℤ d = mul_pos job.pitch job.pitch (some job.pitch ok.wide) (some job.pitch ok.wide) in
+    let quotient : ℤ = int_div_euclid (x *ℤ x) d in
+    let low : (d *ℤ quotient) ≤ℤ (x *ℤ x) = rounded_low (x *ℤ x) d quotient wide refl in
+    let high : (x *ℤ x) <ℤ (d *ℤ quotient +ℤ d) = rounded_high (x *ℤ x) d quotient wide refl in
+    let up : pos 0 ≤ℤ quotient = not_below d quotient (x *ℤ x) wide (square_nonneg x) high in
+    subst (λ z. z ≤ℤ (x *ℤ x)) (ring (d ∷ quotient ∷ []) (mul (var 0) (var 1)) (mul (var 1) (var 0)) refl ∙ ap (λ z. z *ℤ d) (size quotient up)) low
+  where
+    some : (p : ℤ) → pos 2000 ≤ℤ p → pos 0 <ℤ p
+    some p h = omega (arith, ints)
+
+    size : (q : ℤ) → pos 0 ≤ℤ q → q ≡ pos (unsigned_abs q)
+    size q h = omega (arith, ints)
+
+    not_below : (d q x : ℤ) → pos 0 <ℤ d → pos 0 ≤ℤ x → x <ℤ (d *ℤ q +ℤ d) → pos 0 ≤ℤ q
+    not_below d q x h k l =
+        by_lt_z q (pos 0)
+        (λ (n : q <ℤ pos 0). absurd (far (d *ℤ (q +ℤ pos 1)) (d *ℤ q) d (d *ℤ pos 0) x (ring (d ∷ q ∷ []) (mul (var 0) (add (var 1) (num (pos 1)))) (add (mul (var 0) (var 1)) (var 0)) refl) (ring (d ∷ []) (mul (var 0) (num (pos 0))) (num (pos 0)) refl) (mul_le_left d (q +ℤ pos 1) (pos 0) (weak d h) (next q n)) k l))
+        (λ (n : pos 0 ≤ℤ q). n)
+      where
+        weak : (d : ℤ) → pos 0 <ℤ d → pos 0 ≤ℤ d
+        weak d h = omega (arith, ints)
+
+        next : (q : ℤ) → q <ℤ pos 0 → (q +ℤ pos 1) ≤ℤ pos 0
+        next q h = omega (arith, ints)
+
+        far : (t a d z x : ℤ) → t ≡ a +ℤ d → z ≡ pos 0 → t ≤ℤ z → pos 0 ≤ℤ x → x <ℤ (a +ℤ d) → ⊥
+        far t a d z x e f h k l = omega (arith, ints)
+
+-- what is at most the radius from a centre is swept by the step there
+deep_reaches : (job : Job) (cells : List Cell) (v : Cell) (q : Point) (r : ℤ) → IsReachedFrom (r *ℤ nanometre) (scaled (centre_of job.pitch v)) (scaled q)
+    → Sweeps (deep_step job (run_at job cells) v) q r
+unfolding width_of
+deep_reaches job cells v q r reached =
+    subst (λ b. near_of (scaled q) b b (width_of r) ≡ true) (sym (at_corner job v))
+    (point_near (scaled q) (scaled (centre_of job.pitch v)) (width_of r) (four_times (length2 ((scaled q).x -ℤ (scaled (centre_of job.pitch v)).x) ((scaled q).y -ℤ (scaled (centre_of job.pitch v)).y)) r reached))
+  where
+    four_times : (l r : ℤ) → l ≤ℤ ((r *ℤ nanometre) *ℤ (r *ℤ nanometre)) → (pos 4 *ℤ l) ≤ℤ (((pos 2 *ℤ r) *ℤ nanometre) *ℤ ((pos 2 *ℤ r) *ℤ nanometre))
+    four_times l r h =
+        subst (λ z. (pos 4 *ℤ l) ≤ℤ z) (ring (r ∷ []) (mul (num (pos 4)) (mul (mul (var 0) (num nanometre)) (mul (var 0) (num nanometre)))) (mul (mul (mul (num (pos 2)) (var 0)) (num nanometre)) (mul (mul (num (pos 2)) (var 0)) (num nanometre))) refl)
+        (mul_le_left (pos 4) l ((r *ℤ nanometre) *ℤ (r *ℤ nanometre)) (omega (arith, ints)) h)
+
+scaled_reach : (p : ℤ) (v : Cell) (q : Point) (r : ℤ) → IsReachedFrom (r *ℤ nanometre) (in_unit nanometre (centre_of p v)) (in_unit nanometre q) → IsReachedFrom (r *ℤ nanometre) (scaled (centre_of p v)) (scaled q)
+unfolding scaled
+scaled_reach p v q r h = h
+
+pub mills : (job : Job) (painted : List Painted) (cells : List Cell) (moves : List Move) → IsJob job → IsHalfDiagonal job.pitch (half_diagonal_of job.pitch) → CoverLaw → ScaledSweep
     → ((c : Cell) → Contains cells c ↔ IsContour (keeps job painted) (guard job) c) → map unnumbered moves ≡ moves_of (program_at job cells) → Mills job painted moves
-mills job painted cells moves ok diagonal law lists e = record {
+mills job painted cells moves ok diagonal law sweep lists e = record {
   no_bite = λ q dark move there low swept.
       let over = low_over job cells moves move ok e there low in
       dark_apart job painted over.0 q ok diagonal law ((lists over.0).0 over.1) dark (unscaled q (centre_of job.pitch over.0) (bite_of job) (swept_near job cells move q (bite_of job) over swept));
@@ -86,21 +145,23 @@ mills job painted cells moves ok diagonal law lists e = record {
           subst (λ m. Sweeps m (centre_of job.pitch c) (pos 0)) (sym found.2) (deep_on_spot job cells c),
         )),
   );
+  swept = λ c reached q inside.
+      let v : Cell = reached.from in
+      let step : Move = deep_step job (run_at job cells) v in
+      let found = from_numbered moves step (subst (λ steps. Contains steps step) (sym e) (moves_there job cells v ((lists v).1 reached.member))) in
+      let near = sweep nanometre job.pitch (half_diagonal_of job.pitch) (radius_of job) (sweep_of job) ok.pitch diagonal ok.fine (sweep_low job ok) v c reached.within q inside in (
+        found.0,
+        found.1,
+        subst (λ m. IsDeep (job.zwork *ℤ nanometre) m) (sym found.2) (deep_deep job cells v),
+        subst (λ m. Sweeps m q (radius_of job)) (sym found.2) (deep_reaches job cells v q (radius_of job) (scaled_reach job.pitch v q (radius_of job) near)),
+      );
 }
 
--- the cells of the plan are the contour
-pub contour_of : (job : Job) (painted : List Painted) (kept cells : List Cell) (g : ℤ) → g ≡ guard job
-    → ((c : Cell) → Contains kept c ↔ (is_kept (centre_of job.pitch c) (half_diagonal_of job.pitch) painted ≡ true))
-    → ((test : Cell → Bool) → ((c : Cell) → Contains kept c ↔ (test c ≡ true)) → (c : Cell) → Contains cells c ↔ IsContour test g c)
-    → (c : Cell) → Contains cells c ↔ IsContour (keeps job painted) (guard job) c
-unfolding keeps
-contour_of job painted kept cells g e lists contour = subst (λ z. (c : Cell) → Contains cells c ↔ IsContour (keeps job painted) z c) e (contour (keeps job painted) lists)
-
 -- the run of the program's lines
-pub runs : (job : Job) (painted : List Painted) (cells : List Cell) → IsJob job → IsHalfDiagonal job.pitch (half_diagonal_of job.pitch) → CoverLaw → RunLaw
+pub runs : (job : Job) (painted : List Painted) (cells : List Cell) → IsJob job → IsHalfDiagonal job.pitch (half_diagonal_of job.pitch) → CoverLaw → ScaledSweep → RunLaw
     → IsProgram (program_at job cells) → IsRunnable (program_at job cells) → ((c : Cell) → Contains cells c ↔ IsContour (keeps job painted) (guard job) c)
     → RunsTo (lines_of (program_at job cells)) (Mills job painted)
 unfolding RunsTo
-runs job painted cells ok diagonal law run valid runnable lists =
+runs job painted cells ok diagonal law sweep run valid runnable lists =
     let found = run (program_at job cells) valid runnable in
-    (found.0, found.1, mills job painted cells found.0 ok diagonal law lists found.2)
+    (found.0, found.1, mills job painted cells found.0 ok diagonal law sweep lists found.2)
