@@ -1,5 +1,5 @@
 -- The contour of the cells before one in the order of rows is traced.
-use Rattle.std.proofs.Common.{◌≡◌, ◌≢◌, ◌⊎◌, inl, inr, ℕ, zero, suc, ◌<◌, ◌≤◌, ◌+◌, ◌*◌, ℤ, pos, negsuc, ◌+ℤ◌, ◌-ℤ◌, ◌≤ℤ◌, ◌<ℤ◌, int_le, int_lt, unsigned_abs, Bool, true, false, cond, not, ◌&&◌, ◌||◌, ◌↔◌, List, length, get_or, set, take, slice_index, slice_index_or, nat_lt, count_by, refl, sym, ap, subst, ◌∙◌, arith, get_or-set_other, get_or-set_same}
+use Rattle.std.proofs.Common.{◌≡◌, ◌≢◌, ◌⊎◌, inl, inr, ℕ, ◌<◌, ◌≤◌, ◌+◌, ℤ, pos, negsuc, ◌+ℤ◌, ◌-ℤ◌, ◌≤ℤ◌, ◌<ℤ◌, int_le, int_lt, unsigned_abs, Bool, true, false, cond, not, ◌&&◌, ◌||◌, ◌↔◌, List, length, get_or, set, take, slice_index, nat_lt, count_by, refl, sym, ap, subst, ◌∙◌, arith, get_or-set_other, get_or-set_same}
 use Rattle.std.proofs.lemmas.List.{length-set, take-set-le}
 use Rattle.std.proofs.Math.Nat.{add-zero}
 use Rattle.std.proofs.lemmas.List.Sums.{count_by_more_yes, count_by_more_no}
@@ -8,7 +8,7 @@ use Rattle.std.proofs.lemmas.Int.{by_lt_z}
 use borrow.Author.Differences.{ints}
 use Rattle.number_laws.proofs.Tests.{by_bool}
 use Rattle.board_base.specs.declared.places.Cell.{Cell}
-use Rattle.board_base.specs.Lattice.{AreNeighbours, IsBeside}
+use Rattle.board_base.specs.Lattice.{IsBeside}
 use Rattle.cell_grid.specs.declared.frames.Frame.{Frame}
 use Rattle.cell_grid.specs.Grid.{Grid, IsSized}
 use Rattle.cell_grid.specs.Place.{IsFrame, InFrame, IsBetween, place_of, column_of, row_of, cells_of}

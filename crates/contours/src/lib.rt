@@ -130,3 +130,6 @@ pub fn contour(bench: &mut Workbench, g: u64) -> u64
     }
     size
 }
+
+#[cfg(test)]
+mod tests;
