@@ -27,6 +27,7 @@ use Rattle.copper_cover.specs.Kept.{dark_rectangle, KeptLaw}
 use Rattle.mill_plan.specs.declared.job.Job.{Job}
 use Rattle.mill_plan.specs.Job.{IsJob, guard, keeps}
 use Rattle.mill_plan.specs.Frame.{IsMargin, IsFrameOf}
+use Rattle.mill_plan.specs.Raster.{IsFarAtEdge}
 
 -- ---- the cells round a kept one
 
@@ -99,13 +100,8 @@ past_guard job m d margin h =
     by : (a b c d : ℤ) → a <ℤ b → b ≤ℤ c → c ≤ℤ d → a <ℤ d
     by a b c d h k l = omega (arith, ints)
 
--- a cell outside the frame, or of its border, is farther than the guard from every kept cell
-pub record IsFarAtEdge (job : Job) (kept : Cell → Bool) (f : Frame) : Type 0 where
-  pub outside : (c k : Cell) → in_frame f c ≡ false → kept k ≡ true → guard job <ℤ dist2 c k
-  pub border : (c k : Cell) → IsOnBorder f c → kept k ≡ true → guard job <ℤ dist2 c k
-  pub inside : (k : Cell) → kept k ≡ true → in_frame f k ≡ true
-
-pub far_at_edge : (job : Job) (kept : Cell → Bool) (f : Frame) (m : ℕ) → IsMargin job m → IsRoomy f m kept → IsFarAtEdge job kept f
+-- the border of a roomy frame is far from the kept cells
+pub far_at_edge : (job : Job) (kept : Cell → Bool) (f : Frame) (m : ℕ) → IsMargin job m → IsRoomy f m kept → IsFarAtEdge (guard job) kept f
 far_at_edge job kept f m margin roomy = record {
   outside = λ c k out on. past_guard job m (dist2 c k) margin (edge_far f m c k (roomy.room k on) (outside_at_edge f c out));
   border = λ c k edge on. past_guard job m (dist2 c k) margin (edge_far f m c k (roomy.room k on) (border_at_edge f c edge));

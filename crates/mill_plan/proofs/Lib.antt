@@ -4,3 +4,5 @@ pub mod ProgramLaws
 pub mod MoveLaws
 pub mod MillsLaws
 pub mod FrameLaws
+pub mod ListedLaws
+pub mod AllowedLaws
