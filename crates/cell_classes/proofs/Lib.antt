@@ -1,1 +1,5 @@
 pub mod Frames
+pub mod Numbers
+pub mod Links
+pub mod Flooding
+pub mod FloodGrids
