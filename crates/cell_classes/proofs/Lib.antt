@@ -3,3 +3,5 @@ pub mod Numbers
 pub mod Links
 pub mod Flooding
 pub mod FloodGrids
+pub mod Numbering
+pub mod NumberGrids

@@ -1,21 +1,21 @@
 -- The numbers of the cells after one is written, and which cells are taken.
 use Rattle.std.proofs.Common.{◌≡◌, ◌≢◌, ℕ, ◌+◌, ◌*◌, ◌<◌, ◌≤◌, ◌==◌, cond, not, Bool, true, false, List, [], ◌∷◌, length, set, get_or, slice_index, count_by, fold, suc, zero, ◌⊎◌, inl, inr, refl, sym, ap, subst, ◌∙◌, arith, get_or-set_same, get_or-set_other}
-use Rattle.std.proofs.lemmas.List.{length-set}
+use Rattle.std.proofs.lemmas.List.{length-set, get_or_past}
 use Rattle.std.proofs.lemmas.List.Sums.{sum_by-set, count_by-le-length}
-use Rattle.std.proofs.lemmas.Bool.{false≢true, cases_eq, eqb-true, eq-eqb, ne_eqb}
+use Rattle.std.proofs.lemmas.Bool.{false≢true, cases_eq, cases_lt, eqb-true, eq-eqb, ne_eqb}
 use mathlib.Core.Bool.{beq}
 use Rattle.board_base.specs.declared.places.Cell.{Cell}
 use Rattle.cell_grid.specs.declared.frames.Frame.{Frame}
 use Rattle.cell_grid.specs.declared.bits.Plane.{Plane}
 use Rattle.cell_grid.specs.declared.bits.Plane.TheVariants.{Kept, Allowed, Pass, Visited, Swept}
 use Rattle.cell_grid.specs.Grid.{Grid, plane_of}
-use Rattle.cell_grid.specs.Place.{InFrame, place_of, cells_of}
+use Rattle.cell_grid.specs.Place.{InFrame, place_of, cells_of, cell_of_place}
 use Rattle.cell_grid.specs.Cells.{in_frame, in_plane, number_in}
 use Rattle.cell_grid.proofs.PlaceLaws.{place_below, place_same}
 use Rattle.number_laws.proofs.Tests.{by_bool}
 use Rattle.cell_classes.specs.Taken.{is_taken, outer_number}
 use Rattle.cell_classes.specs.Floods.{IsOpen}
-use Rattle.cell_classes.proofs.Frames.{inside, of_inside}
+use Rattle.cell_classes.proofs.Frames.{inside, of_inside, cell_in, place_cell}
 
 pub cond_at : {A : Type 0} (t : Bool) (x y : A) → t ≡ true → cond t x y ≡ x
 cond_at true x y e = refl
@@ -37,6 +37,16 @@ number_all P f outer works out each c =
     by_bool (in_frame f c)
     (λ e. subst P (sym (number_inside f outer works c e)) (each (place_of f c)))
     (λ e. subst P (sym (number_outside f outer works c e)) out)
+
+-- what holds of the number of each cell holds of all entries
+pub at_places : (P : ℕ → Type 0) (f : Frame) (outer : ℕ) (works : List ℕ) → length works ≡ cells_of f → ((a : Cell) → P (number_in f outer works a)) → P 0 → (k : ℕ) → P (slice_index works k)
+at_places P f outer works len each none k =
+    elim (cases_lt k (cells_of f)) as (λ _. P (slice_index works k)) [
+      | inl l ↦
+          subst P (number_inside f outer works (cell_of_place f k) (of_inside f (cell_of_place f k) (cell_in f k l)) ∙ ap (λ (n : ℕ). get_or works n 0) (place_cell f k l))
+          (each (cell_of_place f k))
+      | inr past ↦ subst P (sym (get_or_past works k 0 (omega (arith, past, len)))) none
+    ]
 
 true_is : (b : Bool) → b ≡ beq b true
 true_is true = refl

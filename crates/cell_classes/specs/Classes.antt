@@ -10,7 +10,7 @@ use Rattle.cell_grid.specs.Chains.{IsBefore, IsLinked}
 -- no number is above `outer`, and the cells that have a number are one whole class
 pub record IsBegun (f : Frame) (taken : Cell → Bool) (outer : ℕ) (works : List ℕ) : Type 0 where
   pub clear : (a : Cell) → taken a ≡ false → number_in f outer works a ≡ 0
-  pub few : (k : ℕ) → slice_index works k ≤ outer
+  pub few : (a : Cell) → number_in f outer works a ≤ outer
   pub same : (a b : Cell) → 0 < number_in f outer works a → number_in f outer works a ≡ number_in f outer works b → IsLinked taken a b
   pub whole : (a b : Cell) → 0 < number_in f outer works a → IsLinked taken a b → number_in f outer works a ≡ number_in f outer works b
 

@@ -27,6 +27,13 @@ fn clear_works(bench: &mut Workbench)
     }
 }
 
+// The number of all cells outside the frame.
+fn outer(on: bool) -> u32
+    ensures { result ≡ outer_number on }
+{
+    if on { 0 } else { 1 }
+}
+
 // Numbers the classes that have no number yet, in the order of their first cells, from the first
 // number above that of the cells outside the frame on; gives the last number.
 fn number_from(bench: &mut Workbench, plane: Plane, on: bool) -> u32
@@ -35,7 +42,7 @@ fn number_from(bench: &mut Workbench, plane: Plane, on: bool) -> u32
     ensures numbered { IsNumbered bench.old.frame (is_taken on bench.old.frame (plane_of bench.old plane)) (outer_number on) (bench.new).works result }
 {
     let frame = bench.frame();
-    let mut count = if on { 0 } else { 1 };
+    let mut count = outer(on);
     'rows: for y in 0..frame.height {
         'cells: for x in 0..frame.width {
             let c = cell_at(frame, x, y);

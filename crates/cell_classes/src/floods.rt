@@ -17,7 +17,7 @@ use cell_grid::{Frame, Plane, Workbench};
 #[inline(always)]
 pub(crate) fn is_open(bench: &Workbench, plane: Plane, on: bool, c: Cell) -> bool
     requires { InFrame bench.now.frame c }
-    ensures open { result ≡ true → IsOpen bench.now.frame (is_taken on bench.now.frame (plane_of bench.now plane)) (outer_number on) bench.now.works c }
+    ensures opened { result ≡ true → IsOpen bench.now.frame (is_taken on bench.now.frame (plane_of bench.now plane)) (outer_number on) bench.now.works c }
     ensures closed { result ≡ false → IsOpen bench.now.frame (is_taken on bench.now.frame (plane_of bench.now plane)) (outer_number on) bench.now.works c → ⊥ }
 {
     bench.get(plane, c) == on && bench.work(c) == 0
