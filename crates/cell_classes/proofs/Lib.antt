@@ -1,0 +1,7 @@
+pub mod Frames
+pub mod Numbers
+pub mod Links
+pub mod Flooding
+pub mod FloodGrids
+pub mod Numbering
+pub mod NumberGrids
