@@ -3,6 +3,8 @@
 //! specs/Groups), and no file here may repeat them. How groups are found may change, their order not.
 #![tactic(auto)]
 
+mod laws;
 mod sweeps;
 
+pub use laws::{inner_law, pair_law};
 pub use sweeps::mark_swept;
