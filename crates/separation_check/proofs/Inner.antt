@@ -1,0 +1,102 @@
+-- Chains that begin in a frame whose border has no free cell stay in it.
+use Rattle.std.proofs.Common.{◌≡◌, ◌≢◌, ◌⊎◌, inl, inr, ◌↔◌, ℕ, zero, suc, ◌+◌, ◌<◌, ◌≤◌, ℤ, pos, ◌+ℤ◌, ◌-ℤ◌, ◌≤ℤ◌, ◌<ℤ◌, unsigned_abs, Bool, true, false, List, [], get_or, refl, sym, ap, subst, ◌∙◌, arith}
+use Rattle.std.proofs.lemmas.Bool.{false≢true, cases_eq}
+use borrow.Author.Differences.{ints}
+use Rattle.number_laws.proofs.Tests.{by_bool}
+use Rattle.board_base.specs.declared.places.Cell.{Cell}
+use Rattle.board_base.specs.Lattice.{IsBeside}
+use Rattle.cell_grid.specs.declared.frames.Frame.{Frame}
+use Rattle.cell_grid.specs.Place.{InFrame, IsBetween, column_of, row_of}
+use Rattle.cell_grid.specs.Cells.{in_frame, IsOnBorder}
+use Rattle.cell_grid.specs.Chains.{Chain, IsLinked}
+use Rattle.cell_grid.specs.Groups.{IsGroup, AreGroups}
+use Rattle.separation_check.specs.Laws.{AgreeInside, InnerChains, InnerGroups}
+use Rattle.separation_check.proofs.Planes.{inside, of_inside}
+use Rattle.separation_check.proofs.Links.{chain_end}
+
+-- a cell of the frame with a neighbour outside stands on the border
+pub border_of : (f : Frame) (c d : Cell) → InFrame f c → in_frame f d ≡ false → IsBeside c d → IsOnBorder f c
+border_of f c d h out s = record {
+  inside = of_inside f c h;
+  edge =
+      elim (cases_eq (column_of f c) 0) as (λ _. Edge) [
+        | inl e ↦ inl e
+        | inr west ↦ elim (cases_eq (column_of f c + 1) f.width) as (λ _. Edge) [
+          | inl e ↦ inr (inl e)
+          | inr east ↦ elim (cases_eq (row_of f c) 0) as (λ _. Edge) [
+            | inl e ↦ inr (inr (inl e))
+            | inr south ↦ elim (cases_eq (row_of f c + 1) f.height) as (λ _. Edge) [
+              | inl e ↦ inr (inr (inr e))
+              | inr north ↦ absurd (false≢true (sym out ∙ of_inside f d (record {
+                column = inner c.i d.i f.i0 f.width h.column west east s.west s.east;
+                row = inner c.j d.j f.j0 f.height h.row south north s.south s.north;
+              })))
+            ]
+          ]
+        ]
+      ];
+}
+  where
+    Edge : Type 0
+    Edge = (column_of f c ≡ 0) ⊎ (column_of f c + 1 ≡ f.width) ⊎ (row_of f c ≡ 0) ⊎ (row_of f c + 1 ≡ f.height)
+
+    inner : (i i' i0 : ℤ) (w : ℕ) → IsBetween i i0 w → unsigned_abs (i -ℤ i0) ≢ 0 → unsigned_abs (i -ℤ i0) + 1 ≢ w → (i -ℤ i') ≤ℤ pos 1 → (i' -ℤ i) ≤ℤ pos 1 → IsBetween i' i0 w
+    inner i i' i0 w b n m low high = record { low = omega (arith, ints, b.low, b.high); high = omega (arith, ints, b.low, b.high) }
+
+module _ (f : Frame) (t u : Cell → Bool) (p : AgreeInside f t u) where
+  stays_in : (a b : Cell) (n : ℕ) → in_frame f a ≡ true → Chain (λ c. t c ≡ true) a b n → in_frame f b ≡ true
+  stays_in a b zero i q = ap (in_frame f) (sym q.0) ∙ i
+  stays_in a b (suc n) i q =
+      let k = stays_in a q.0 n i q.1.0 in
+      by_bool (in_frame f b) (λ e. e)
+      (λ out. absurd (false≢true (sym (p.border q.0 (border_of f q.0 b (inside f q.0 k) out q.1.1)) ∙ chain_end (λ c. t c ≡ true) a q.0 n q.1.0)))
+
+  carried : (a b : Cell) (n : ℕ) → in_frame f a ≡ true → Chain (λ c. t c ≡ true) a b n → Chain (λ c. u c ≡ true) a b n
+  carried a b zero i q = (q.0, sym (p.agree a i) ∙ q.1)
+  carried a b (suc n) i q = (q.0, (carried a q.0 n i q.1.0, q.1.1, sym (p.agree b (stays_in a b (suc n) i q)) ∙ q.1.2))
+
+  linked_too : (a b : Cell) → in_frame f a ≡ true → IsLinked t a b → IsLinked u a b
+  linked_too a b i j = record { steps = j.steps; chain = carried a b j.steps i j.chain }
+
+agree_sym : (f : Frame) (t u : Cell → Bool) → AgreeInside f t u → AgreeInside f u t
+agree_sym f t u p = record { agree = λ c i. sym (p.agree c i); border = λ c b. sym (p.agree c b.inside) ∙ p.border c b }
+
+pub inner_chains : InnerChains
+inner_chains f t u p a b i = (linked_too f t u p a b i, linked_too f u t (agree_sym f t u p) a b i)
+
+module _ (f : Frame) (t u : Cell → Bool) (number : Cell → ℕ) (p : AgreeInside f t u) (none : (c : Cell) → in_frame f c ≡ false → number c ≡ 0) where
+  numbered : (c : Cell) → 0 < number c → in_frame f c ≡ true
+  numbered c s = by_bool (in_frame f c) (λ e. e) (λ out. absurd (omega (arith, s, none c out)))
+
+  there : (a b : Cell) → in_frame f a ≡ true → IsLinked t a b → IsLinked u a b
+  there = linked_too f t u p
+
+  back : (a b : Cell) → in_frame f a ≡ true → IsLinked u a b → IsLinked t a b
+  back = linked_too f u t (agree_sym f t u p)
+
+  one : (first : Cell) (group : List ℕ) → IsGroup (λ c. t c ≡ true) number first group → IsGroup (λ c. u c ≡ true) number first group
+  one first group g =
+      let i = numbered first g.island in
+      record {
+        island = g.island;
+        free_there = sym (p.agree first i) ∙ g.free_there;
+        earliest = λ c s j b. g.earliest c s (back first c i j) b;
+        ascending = g.ascending;
+        sound = λ v k. let m = g.sound v k in (m.0, (m.1.0, there first m.0 i m.1.1, m.1.2));
+        whole = λ c s j. g.whole c s (back first c i j);
+        two = g.two;
+      }
+
+  groups_too : (groups : List (List ℕ)) → AreGroups (λ c. t c ≡ true) number groups → AreGroups (λ c. u c ≡ true) number groups
+  groups_too groups g = record {
+    firsts = g.firsts;
+    same_length = g.same_length;
+    each = λ k d l. one (get_or g.firsts k d) (get_or groups k []) (g.each k d l);
+    order = g.order;
+    all = λ a b sa sb ne j.
+        let r = g.all a b sa sb ne (back a b (numbered a sa) j) in
+        (r.0, (r.1.0, λ d. there (get_or g.firsts r.0 d) a (numbered (get_or g.firsts r.0 d) (g.each r.0 d r.1.0).island) (r.1.1 d)));
+  }
+
+pub inner_groups : InnerGroups
+inner_groups f t u number groups p none = groups_too f t u number p none groups
