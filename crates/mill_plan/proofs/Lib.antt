@@ -6,3 +6,6 @@ pub mod MillsLaws
 pub mod FrameLaws
 pub mod ListedLaws
 pub mod AllowedLaws
+pub mod SweptLaws
+pub mod LimitLaws
+pub mod RasterLaws

@@ -4,7 +4,7 @@ use Rattle.std.specs.Int.{int_div_euclid}
 use Rattle.board_base.specs.Lattice.{half_diagonal_of}
 use Rattle.cell_grid.specs.declared.frames.Frame.{Frame}
 use Rattle.cell_grid.specs.declared.frames.GridError.{GridError}
-use Rattle.cell_grid.specs.declared.frames.GridError.TheVariants.{PastReach, TooWide, TooManyCells}
+use Rattle.cell_grid.specs.declared.frames.GridError.TheVariants.{PastReach, TooWide, TooManyCells, Memory as GridMemory}
 use Rattle.cell_grid.specs.Boxes.{no_cells, IsFramed}
 use Rattle.cell_grid.specs.Islands.{AreMoreIslands}
 use Rattle.shape_parts.specs.declared.shape.Painted.{Painted}
@@ -12,12 +12,18 @@ use Rattle.copper_cover.specs.Kept.{dark_rectangle}
 use Rattle.mill_plan.specs.declared.job.Job.{Job}
 use Rattle.mill_plan.specs.declared.limits.LimitHit.{LimitHit}
 use Rattle.mill_plan.specs.declared.limits.LimitHit.TheVariants.{Reach, Side, Cells, Islands}
+use Rattle.mill_plan.specs.declared.limits.PlanError.{PlanError}
+use Rattle.mill_plan.specs.declared.limits.PlanError.TheVariants.{Limit, Memory}
 use Rattle.mill_plan.specs.Job.{radius_of, guard, keeps}
 
 -- the squared index distance up to which a visited centre sweeps cells wholly
 unfoldable pub sweep_of : Job → ℕ
 sweep_of job =
     unsigned_abs (int_div_euclid ((radius_of job -ℤ half_diagonal_of job.pitch) *ℤ (radius_of job -ℤ half_diagonal_of job.pitch)) (job.pitch *ℤ job.pitch))
+
+-- twice the distance up to which a visited centre sweeps cells wholly
+unfoldable pub width_swept : Job → ℤ
+width_swept job = pos 2 *ℤ (radius_of job -ℤ half_diagonal_of job.pitch)
 
 -- the margin of the frame: the whole root of the guard, and two cells
 pub record IsMargin (job : Job) (margin : ℕ) : Type 0 where
@@ -45,3 +51,10 @@ HitsLimit job painted (Reach value) = IsFrameOf job painted (Err (PastReach valu
 HitsLimit job painted (Side side) = IsFrameOf job painted (Err (TooWide side))
 HitsLimit job painted (Cells cells) = IsFrameOf job painted (Err (TooManyCells cells))
 HitsLimit job painted Islands = HasManyIslands job painted
+
+-- what a refusal of a frame is to a side
+abbrev pub error_of : GridError → PlanError
+error_of (PastReach value) = Limit (Reach value)
+error_of (TooWide side) = Limit (Side side)
+error_of (TooManyCells cells) = Limit (Cells cells)
+error_of GridMemory = Memory

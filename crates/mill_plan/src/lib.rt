@@ -3,11 +3,13 @@
 //! must do in specs/Mills. Other orders and shapes of the cuts are to meet these words, not to change them.
 #![tactic(auto)]
 
+mod frame;
 mod isolation;
 mod job;
 mod limits;
-
-
+mod measures;
+mod program;
+mod raster;
 
 pub use isolation::{Isolation, isolate};
 pub use job::Job;
