@@ -30,7 +30,7 @@ first_or_later x xs a (suc k, h, e) = inr (k, omega (arith, h), e)
 later : (x : Cell) (xs : List Cell) (a : Cell) → Contains xs a → Contains (x ∷ xs) a
 later x xs a (k, h, e) = (suc k, omega (arith, h), e)
 
-none_contained : (a : Cell) → Contains {X = Cell} [] a → ⊥
+pub none_contained : (a : Cell) → Contains {X = Cell} [] a → ⊥
 none_contained a (k, h, e) = omega (arith, h)
 
 pub fewer : (waiting : List Cell) (at : Cell) → Some at ≡ slice_get waiting 0 → length (drop 1 waiting) + 1 ≡ length waiting

@@ -5,3 +5,5 @@ pub mod Flooding
 pub mod FloodGrids
 pub mod Numbering
 pub mod NumberGrids
+pub mod Seeds
+pub mod Grids

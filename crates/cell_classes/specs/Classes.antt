@@ -25,10 +25,14 @@ pub record IsNumbered (f : Frame) (taken : Cell → Bool) (outer : ℕ) (works :
   pub order : (a : Cell) (u : ℕ) → outer < u → u < number_in f outer works a → (b : Cell) × (IsBefore b a × (number_in f outer works b ≡ u))
   pub present : (u : ℕ) → outer < u → u ≤ count → (b : Cell) × (number_in f outer works b ≡ u)
 
+-- the column or the row, counted from 0, is the frame's first or last
+abbrev pub IsEdge : Frame → ℕ → ℕ → Type 0
+IsEdge f x y = (x ≡ 0) ⊎ (x + 1 ≡ f.width) ⊎ (y ≡ 0) ⊎ (y + 1 ≡ f.height)
+
 -- the taken cells on the frame's border, and no others of the frame, have the number 1 and wait
 pub record IsSeeded (f : Frame) (taken : Cell → Bool) (works : List ℕ) (waiting : List Cell) (put : ℕ) : Type 0 where
   pub each : (a : Cell) → IsOnBorder f a → taken a ≡ true → number_in f 1 works a ≡ 1
   pub own : (a : Cell) → in_frame f a ≡ true → number_in f 1 works a ≡ 1 → (taken a ≡ true) × IsOnBorder f a × Contains waiting a
-  pub rest : (k : ℕ) → (slice_index works k ≡ 0) ⊎ (slice_index works k ≡ 1)
+  pub rest : (a : Cell) → (number_in f 1 works a ≡ 0) ⊎ (number_in f 1 works a ≡ 1)
   pub count : count_by (λ n. n == 1) works ≡ put
   pub queued : (a : Cell) → Contains waiting a → (in_frame f a ≡ true) × (number_in f 1 works a ≡ 1)

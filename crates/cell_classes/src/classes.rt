@@ -1,22 +1,21 @@
 // The numbering of classes.
-ghost use Rattle.std.specs.Prelude.{◌≡◌, ◌≤◌, ◌+◌, ◌+ℤ◌, pos, ◌⊎◌, ◌↔◌, ℕ, [], not, IsTrue, slice_index};
+ghost use Rattle.std.specs.Prelude.{◌≡◌, ◌<◌, ◌≤◌, ◌+◌, ◌↔◌, ℕ, false, not, IsTrue, slice_index};
 ghost use Rattle.board_base.specs.declared.places.Cell.{Cell};
-ghost use Rattle.cell_grid.specs.Place.{IsFrame, InFrame, cells_of};
+ghost use Rattle.cell_grid.specs.Place.{cells_of};
 ghost use Rattle.cell_grid.specs.Grid.{plane_of};
-ghost use Rattle.cell_grid.specs.Cells.{in_plane, number_in, IsOnBorder};
+ghost use Rattle.cell_grid.specs.Cells.{in_plane, number_in};
 ghost use Rattle.cell_grid.specs.Chains.{IsClasses};
 ghost use Rattle.cell_grid.specs.Islands.{AreIslands};
 ghost use Rattle.cell_classes.specs.Taken.{is_taken, outer_number};
 ghost use Rattle.cell_classes.specs.Floods.{ChangesNumbers};
-ghost use Rattle.cell_classes.specs.Classes.{IsBegun, IsNumbered, IsSeeded};
+ghost use Rattle.cell_classes.specs.Classes.{IsBegun, IsEdge, IsNumbered, IsSeeded};
 
 use crate::floods::{flood, flood_from, is_open, put};
-use board_base::Cell;
 use cell_grid::{Frame, Plane, Workbench, cell_at};
 
 // Takes all numbers away.
 fn clear_works(bench: &mut Workbench)
-    ensures rest { bench.new ≡ record bench.old { works = (bench.new).works } }
+    ensures rest { ChangesNumbers bench.old bench.new }
     ensures clear { (k : ℕ) → slice_index (bench.new).works k ≡ 0 }
 {
     let frame = bench.frame();
@@ -66,23 +65,14 @@ pub fn number_classes(bench: &mut Workbench, plane: Plane) -> u32
     number_from(bench, plane, true)
 }
 
-// Whether a cell of the frame is in its first or last column or row.
+// Whether a column and a row of the frame meet on its border.
 #[inline(always)]
-fn is_on_border(frame: Frame, c: Cell) -> bool
-    requires frame { IsFrame frame }
-    requires cell { InFrame frame c }
-    ensures { IsTrue result ↔ IsOnBorder frame c }
+fn is_edge(frame: Frame, x: u32, y: u32) -> bool
+    requires x { x < frame.width }
+    requires y { y < frame.height }
+    ensures { IsTrue result ↔ IsEdge frame x y }
 {
-    if c.i == frame.i0 {
-        return true;
-    }
-    if c.i + 1 == frame.i0 + frame.width as i32 {
-        return true;
-    }
-    if c.j == frame.j0 {
-        return true;
-    }
-    c.j + 1 == frame.j0 + frame.height as i32
+    x == 0 || x + 1 == frame.width || y == 0 || y + 1 == frame.height
 }
 
 // Gives the number 1 to the cells of the border that aren't in the plane, and lets them wait.
@@ -96,7 +86,7 @@ fn seed_border(bench: &mut Workbench, plane: Plane)
     'rows: for y in 0..frame.height {
         'cells: for x in 0..frame.width {
             let c = cell_at(frame, x, y);
-            if is_on_border(frame, c) && !bench.get(plane, c) {
+            if is_edge(frame, x, y) && is_open(bench, plane, false, c) {
                 put(bench, c, 1);
             }
         }

@@ -9,3 +9,6 @@ mod ways;
 
 pub use classes::{number_classes, number_rest};
 pub use ways::neighbour;
+
+#[cfg(test)]
+mod tests;
