@@ -1,1 +1,4 @@
 pub mod AllowedLaws
+pub mod LeastLaws
+pub mod FieldLaws
+pub mod PlainLaws

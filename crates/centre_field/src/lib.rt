@@ -3,5 +3,8 @@
 #![tactic(auto)]
 
 mod centres;
+mod gaps;
+mod plain;
 
 pub use centres::allowed;
+pub use plain::plain_clearance;
