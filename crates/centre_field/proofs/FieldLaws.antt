@@ -89,6 +89,9 @@ square_of_cells f c k h l =
 pub column_in : (f : Frame) (c : Cell) → InFrame f c → column_of f c < f.width
 column_in f c h = omega (arith, ints)
 
+pub row_in : (f : Frame) (c : Cell) → InFrame f c → row_of f c < f.height
+row_in f c h = omega (arith, ints)
+
 -- the column and the row of a cell, by its place
 pub column_at_place : (f : Frame) (c : Cell) → InFrame f c → place_of f c % f.width ≡ column_of f c
 unfolding place_of

@@ -3,8 +3,12 @@
 #![tactic(auto)]
 
 mod centres;
+mod clearances;
+mod columns;
 mod gaps;
 mod plain;
+mod rows;
 
 pub use centres::allowed;
+pub use clearances::clearance;
 pub use plain::plain_clearance;
