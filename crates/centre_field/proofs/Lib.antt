@@ -1,0 +1,11 @@
+pub mod AllowedLaws
+pub mod LeastLaws
+pub mod FieldLaws
+pub mod WrittenLaws
+pub mod PlainLaws
+pub mod ColumnLaws
+pub mod Parabola
+pub mod Entering
+pub mod ListingLaws
+pub mod RowLaws
+pub mod TwoPassLaws

@@ -1,0 +1,228 @@
+// The least squares along a row, by the columns that are the nearest somewhere.
+ghost use Rattle.std.specs.Prelude.{◌≡◌, ◌≢◌, ◌<◌, ◌≤◌, ◌+◌, ◌*◌, ℕ, suc};
+ghost use Rattle.centre_field.specs.Distances.{square_gap as square_of};
+ghost use Rattle.centre_field.specs.Columns.{number_at, ChangesRow};
+ghost use Rattle.centre_field.specs.Rows.{column_at, start_at, square_at, listed_at, IsShort, AreDistances, IsListing, IsLeastInRow, FinishesRow, AreLeastInRows, start_from};
+
+use crate::gaps::square_gap;
+use cell_grid::{Workbench, cell_at};
+
+// A listed column: the nearest from `start` on, up to where the next listed one starts.
+#[derive(Clone, Copy)]
+struct ListedColumn {
+    column: u32,
+    start: u32,
+    square: u64,
+}
+
+// The column that is listed at `j`.
+#[inline(always)]
+fn listed(bench: &Workbench, j: u32) -> ListedColumn
+    requires j { j < (bench.now).frame.width }
+    requires short { IsShort (bench.now).frame.width (bench.now).scratch j }
+    ensures column { result.column ≡ column_at (bench.now).scratch j }
+    ensures start { result.start ≡ start_at (bench.now).scratch j }
+    ensures square { result.square ≡ square_at (bench.now).scratch j }
+    ensures wide { (bench.now).frame.width ≤ 32768 }
+{
+    let _frame = bench.frame();
+    ListedColumn {
+        column: bench.scratch(3 * j) as u32,
+        start: bench.scratch(3 * j + 1) as u32,
+        square: bench.scratch(3 * j + 2),
+    }
+}
+
+// Lists a column at `j`.
+#[tactic(auto, unfolding(crate::specs::Rows::listed_at))]
+#[inline(always)]
+fn list(bench: &mut Workbench, j: u32, entry: ListedColumn)
+    requires { j < (bench.old).frame.width }
+    ensures { bench.new
+        ≡ record bench.old { scratch = listed_at (bench.old).scratch j entry.column entry.start entry.square } }
+{
+    let _frame = bench.frame();
+    bench.set_scratch(3 * j, entry.column as u64);
+    bench.set_scratch(3 * j + 1, entry.start as u64);
+    bench.set_scratch(3 * j + 2, entry.square);
+}
+
+// The squared distance from column `x` to a column with this square.
+#[inline(always)]
+fn value(x: u32, column: u32, square: u64) -> u64
+    requires x { x < 32768 }
+    requires column { column < 32768 }
+    requires square { square ≤ 1073676289 }
+    ensures value { result ≡ square_of x column + square }
+    ensures small { result ≤ 2147352578 }
+{
+    square_gap(x, column) + square
+}
+
+// How many of the first `n` listed columns stay when column `b` enters: those before the last that
+// is no farther than `b` where it starts.
+fn staying(bench: &Workbench, n: u32, b: u32, square: u64) -> u32
+    requires n { n ≤ (bench.now).frame.width }
+    requires b { b < 32768 }
+    requires square { square ≤ 1073676289 }
+    requires short { (j : ℕ) → j < n → IsShort (bench.now).frame.width (bench.now).scratch j }
+    ensures few { result ≤ n }
+    ensures gone { (j : ℕ) → result ≤ j → j < n
+        → square_of (start_at (bench.now).scratch j) b + square
+        < square_of (start_at (bench.now).scratch j) (column_at (bench.now).scratch j)
+        + square_at (bench.now).scratch j }
+    ensures top { (k : ℕ) → suc k ≡ result
+        → square_of (start_at (bench.now).scratch k) (column_at (bench.now).scratch k)
+        + square_at (bench.now).scratch k
+        ≤ square_of (start_at (bench.now).scratch k) b + square }
+{
+    let mut m = n;
+    'last: while 0 < m {
+        let last = listed(bench, m - 1);
+        if value(last.start, last.column, last.square) <= value(last.start, b, square) {
+            return m;
+        }
+        m -= 1;
+    }
+    0
+}
+
+// From where on column `b` with its square is nearer than a column before it.
+#[tactic(auto, unfolding(crate::specs::Rows::start_from))]
+#[inline(always)]
+fn start_after(column: u32, column_square: u64, b: u32, square: u64) -> u64
+    requires order { column < b }
+    requires b { b < 32768 }
+    requires column_square { column_square ≤ 1073676289 }
+    requires square { square ≤ 1073676289 }
+    ensures { result ≡ start_from column column_square b square }
+{
+    let left = column as u64 * column as u64 + column_square;
+    let right = b as u64 * b as u64 + square;
+    if right < left {
+        0
+    } else {
+        (right - left) / (2 * (b - column)) as u64 + 1
+    }
+}
+
+// Column `b` enters the list of `n` columns before it, and the new number of columns is given.
+fn enter(bench: &mut Workbench, y: u32, n: u32, b: u32, distance: u32) -> u32
+    requires b { b < (bench.old).frame.width }
+    requires distance { distance ≡ number_at bench.old b y }
+    requires short { distance < 32768 }
+    requires listing { IsListing bench.old y (bench.old).scratch n b }
+    ensures rest { bench.new ≡ record bench.old { scratch = (bench.new).scratch } }
+    ensures listing { IsListing bench.old y (bench.new).scratch result (b + 1) }
+{
+    let width = bench.frame().width;
+    let square = distance as u64 * distance as u64;
+    let m = staying(bench, n, b, square);
+    if m == 0 {
+        list(
+            bench,
+            0,
+            ListedColumn {
+                column: b,
+                start: 0,
+                square,
+            },
+        );
+        return 1;
+    }
+    let last = listed(bench, m - 1);
+    let start = start_after(last.column, last.square, b, square);
+    if start < width as u64 {
+        list(
+            bench,
+            m,
+            ListedColumn {
+                column: b,
+                start: start as u32,
+                square,
+            },
+        );
+        return m + 1;
+    }
+    m
+}
+
+// Lists the columns of row `y`, from its distances along the columns, and gives their number.
+fn list_row(bench: &mut Workbench, y: u32) -> u32
+    requires y { y < (bench.old).frame.height }
+    requires distances { AreDistances bench.old y }
+    ensures rest { bench.new ≡ record bench.old { scratch = (bench.new).scratch } }
+    ensures listing { IsListing bench.old y (bench.new).scratch result (bench.old).frame.width }
+{
+    let frame = bench.frame();
+    let mut n = 0;
+    'columns: for b in 0..frame.width {
+        let distance = bench.clearance(cell_at(frame, b, y));
+        if distance != u32::MAX {
+            n = enter(bench, y, n, b, distance);
+        }
+    }
+    n
+}
+
+// The listed column that is the nearest at `x`, after the one that is so before it.
+#[inline(always)]
+fn nearest(bench: &Workbench, n: u32, k: u32, x: u32) -> u32
+    requires n { n ≤ (bench.now).frame.width }
+    requires k { k < n }
+    requires short { (j : ℕ) → j < n → IsShort (bench.now).frame.width (bench.now).scratch j }
+    ensures low { k ≤ result }
+    ensures step { result ≤ k + 1 }
+    ensures inside { result < n }
+    ensures moved { result ≢ k → start_at (bench.now).scratch (suc k) ≤ x }
+    ensures stayed { result ≡ k → suc k < n → x < start_at (bench.now).scratch (suc k) }
+{
+    if k + 1 < n && listed(bench, k + 1).start <= x {
+        k + 1
+    } else {
+        k
+    }
+}
+
+// Writes the least square at each place of row `y` from the list of its columns.
+fn write_row(bench: &mut Workbench, y: u32, n: u32)
+    requires y { y < (bench.old).frame.height }
+    requires some { 0 < n }
+    requires listing { IsListing bench.old y (bench.old).scratch n (bench.old).frame.width }
+    ensures row { ChangesRow bench.old bench.new y }
+    ensures least { (x : ℕ) → x < (bench.old).frame.width → IsLeastInRow bench.old y x (number_at bench.new x y) }
+{
+    let frame = bench.frame();
+    let mut k = 0;
+    'places: for x in 0..frame.width {
+        k = nearest(bench, n, k, x);
+        let column = listed(bench, k);
+        let least = value(x, column.column, column.square) as u32;
+        bench.set_clearance(cell_at(frame, x, y), least);
+    }
+}
+
+// From the distances along columns to the least squares, in row `y`.
+fn finish_row(bench: &mut Workbench, y: u32)
+    requires y { y < (bench.old).frame.height }
+    requires distances { AreDistances bench.old y }
+    ensures { FinishesRow bench.old bench.new y }
+{
+    let n = list_row(bench, y);
+    if 0 < n {
+        write_row(bench, y, n);
+    }
+}
+
+// From the distances along columns to the least squares, in all rows.
+pub(crate) fn finish_rows(bench: &mut Workbench)
+    requires { (y : ℕ) → y < (bench.old).frame.height → AreDistances bench.old y }
+    ensures rest { bench.new
+        ≡ record bench.old { clearances = (bench.new).clearances; scratch = (bench.new).scratch } }
+    ensures least { AreLeastInRows bench.old bench.new }
+{
+    let frame = bench.frame();
+    'rows: for y in 0..frame.height {
+        finish_row(bench, y);
+    }
+}
