@@ -5,23 +5,24 @@
 
 ghost use Rattle.std.specs.Prelude.{◌≡◌, ℤ, pos, ◌≤ℤ◌, ◌<ℤ◌, Bool, not, ◌&&◌, ◌||◌, Option};
 ghost use Rattle.board_base.specs.Places.{IsNearPlace};
-ghost use Rattle.shape_parts.specs.Shapes.{shape_touches, shape_covers};
 ghost use Rattle.shape_parts.specs.Boxes.{hull as hull_of, AreBounds};
 ghost use Rattle.shape_parts.specs.Cover.{is_kept as is_kept_of};
-ghost use Rattle.copper_cover.specs.Kept.{joined as joined_of, object_box, dark_rectangle as dark_rectangle_of, KeptLaw};
+ghost use Rattle.copper_cover.specs.Kept.{joined as joined_of, object_box, dark_rectangle as dark_rectangle_of, kept_after as kept_after_of, KeptLaw};
 
+mod cells;
 #[cfg(test)]
 mod tests;
 
 use board_base::{Bounds, Point};
+pub use cells::cover;
 use shape_parts::{Painted, hull};
 
 // What an object makes of a cell: the centre is `c` and half its diagonal `h`.
-fn kept_after(kept: bool, object: &Painted, c: Point, h: i64) -> bool
+pub(crate) fn kept_after(kept: bool, object: &Painted, c: Point, h: i64) -> bool
     requires c { IsNearPlace c }
     requires h_low { pos 0 <ℤ h }
     requires h_high { h ≤ℤ pos 200000 }
-    ensures { result ≡ ((object.now.dark && shape_touches c h object.now.shape) || (kept && not (not object.now.dark && shape_covers c h object.now.shape))) }
+    ensures { result ≡ kept_after_of c h kept object.now }
 {
     if object.dark {
         if kept {

@@ -11,7 +11,7 @@ use crate::raster::raster;
 use crate::{Job, LimitHit, PlanError};
 use cell_grid::Frame;
 use mill_program::{Program, run_law};
-use separation_check::Group;
+type Group = board_base::Items<u16>;
 use separation_laws::{one_count_law, scaled_sweep_law};
 use shape_parts::{Painted, cover_law};
 use std::alloc::Global;
