@@ -121,6 +121,7 @@ far_at_edge job kept f m margin roomy = record {
 
 -- the frame has the cells of the box and the margin round it, and their centres are within reach
 pub record IsRound (p : ℤ) (m : ℕ) (c : CellBox) (f : Frame) : Type 0 where
+  pub pitch : f.pitch ≡ p
   pub west : f.i0 ≡ c.i0 -ℤ pos m
   pub south : f.j0 ≡ c.j0 -ℤ pos m
   pub east : f.i0 +ℤ pos f.width ≡ (c.i1 +ℤ pos m) +ℤ pos 1
@@ -185,6 +186,7 @@ round_of p m c f across up e =
     let three = none_found PastReach is_past east (north ∷ []) two.1 in
     let four = none_found PastReach is_past north [] three.1 in
     record {
+      pitch = ap (λ (g : Frame). g.pitch) a.1;
       west = ap (λ (g : Frame). g.i0) a.1;
       south = ap (λ (g : Frame). g.j0) a.1;
       east = ap (λ (g : Frame). g.i0 +ℤ pos g.width) a.1 ∙ counted (c.i0 -ℤ pos m) (c.i1 +ℤ pos m) (wider c.i0 c.i1 m across);
@@ -341,6 +343,20 @@ frame_places job painted f ok framed k inside = places_by job.pitch framed.margi
   where
     some : (p : ℤ) → pos 2000 ≤ℤ p → pos 0 ≤ℤ p
     some p h = omega (arith, ints)
+
+-- ---- the pitch of the frame
+
+pitch_by : (p : ℤ) (m : ℕ) (c : CellBox) (f : Frame) → IsRoundOrNone p m c f → f.pitch ≡ p
+pitch_by p m c f (no_columns h e) = ap (λ (g : Frame). g.pitch) e
+pitch_by p m c f (no_rows h e) = ap (λ (g : Frame). g.pitch) e
+pitch_by p m c f (round across up r) = r.pitch
+
+pitch_in : (p : ℤ) (m : ℕ) (f : Frame) (box : Option Bounds) → MatchOption box (◌≡◌ {A = Result Frame GridError} (Ok f) (Ok (no_cells p))) (λ b. IsFramed p m b (Ok f)) → f.pitch ≡ p
+pitch_in p m f None e = ap (λ (g : Frame). g.pitch) (same_frame f (no_cells p) e)
+pitch_in p m f (Some b) framed = pitch_by p m framed.cells f (round_or_none p m framed.cells f framed.answer_is)
+
+pub frame_pitch : (job : Job) (painted : List Painted) (f : Frame) → IsFrameOf job painted (Ok f) → f.pitch ≡ job.pitch
+frame_pitch job painted f framed = pitch_in job.pitch framed.margin f (dark_rectangle painted) framed.frame
 
 -- ---- there is one answer
 

@@ -1,11 +1,15 @@
 -- The list of a plane's cells has each of them once, in the order of rows.
-use Rattle.std.proofs.Common.{◌≡◌, ◌↔◌, ◌⊎◌, inl, inr, ℕ, zero, suc, ◌+◌, ◌<◌, ◌≤◌, Bool, true, false, cond, List, [], ◌∷◌, ◌++◌, length, get_or, take, map, slice_index_or, refl, sym, ap, subst, ◌∙◌, arith}
+use Rattle.std.proofs.Common.{◌≡◌, ◌↔◌, ◌⊎◌, inl, inr, ℕ, zero, suc, ◌+◌, ◌<◌, ◌≤◌, Bool, true, false, cond, List, [], ◌∷◌, ◌++◌, length, get_or, take, map, min, append-nil, length-append, slice_index_or, refl, sym, ap, subst, ◌∙◌, arith}
 use Rattle.std.specs.List.{All, Contains}
-use Rattle.std.proofs.lemmas.List.{take_more}
+use Rattle.std.proofs.lemmas.List.{take_more, length-take}
+use Rattle.std.proofs.Math.Seq.{take-length}
 use Rattle.std.proofs.lemmas.List.Elements.{All-nil, All-cons}
 use Rattle.number_laws.proofs.Tests.{by_bool}
 use Rattle.board_base.specs.declared.places.Cell.{Cell}
 use Rattle.cell_grid.specs.declared.frames.Frame.{Frame}
+use Rattle.cell_grid.specs.declared.bits.Plane.{Plane}
+use Rattle.cell_grid.specs.declared.bits.Plane.TheVariants.{Kept, Allowed, Pass, Visited, Swept}
+use Rattle.cell_grid.specs.Grid.{Grid, plane_of, IsSized}
 use Rattle.cell_grid.specs.Place.{InFrame, place_of, cells_of, cell_of_place}
 use Rattle.cell_grid.specs.Cells.{in_frame, in_plane}
 use Rattle.cell_grid.specs.Chains.{IsBefore}
@@ -152,3 +156,94 @@ list_of f plane sized = record { each = λ c. (listed f plane sized c, in_list f
 -- so their count is that of the list
 pub count_of_list : (f : Frame) (plane : List Bool) (n : ℕ) → length plane ≡ cells_of f → n ≡ length (cells_in f plane) → IsCount (λ c. in_plane f plane c ≡ true) n
 count_of_list f plane n sized e = record { cells = cells_in f plane; all = list_of f plane sized; size = sym e }
+
+-- ---- the list so far
+
+-- the cells at the first n places of the plane are listed
+pub record IsListing (f : Frame) (plane : List Bool) (list : List Cell) (n : ℕ) : Type 0 where
+  pub sized : length plane ≡ cells_of f
+  pub is : list ≡ cells_in f (take n plane)
+
+pub none_listed : (f : Frame) (plane : List Bool) (list : List Cell) (n : ℕ) → length plane ≡ cells_of f → list ≡ [] → n ≡ 0 → IsListing f plane list n
+unfolding cells_in
+none_listed f plane list n sized e none = record { sized = sized; is = e ∙ ap (λ k. map (cell_of_place f) (places_from 0 (take k plane))) (sym none) }
+
+pub listing_at : (f : Frame) (plane : List Bool) (list : List Cell) (n m : ℕ) → n ≡ m → IsListing f plane list n → IsListing f plane list m
+listing_at f plane list n m e l = record { sized = l.sized; is = l.is ∙ ap (λ k. cells_in f (take k plane)) e }
+
+pub one_listed : (f : Frame) (plane : List Bool) (list more : List Cell) (n m : ℕ) (c : Cell) (on : Bool) → IsListing f plane list n → InFrame f c → place_of f c ≡ n → on ≡ get_or plane (place_of f c) false
+    → more ≡ list ++ cond on (c ∷ []) [] → m ≡ n + 1 → IsListing f plane more m
+one_listed f plane list more n m c on l inside at is_on e next =
+    let small : n < length plane = subst (λ k. n < k) (sym l.sized) (subst (λ k. k < cells_of f) at (place_below f c inside)) in
+    record {
+      sized = l.sized;
+      is = e ∙ ap (λ xs. xs ++ cond on (c ∷ []) []) l.is ∙ ap (λ b. cells_in f (take n plane) ++ cond b (c ∷ []) []) (is_on ∙ ap (λ k. get_or plane k false) at)
+          ∙ sym (cells_more f plane n c small (first n plane small) inside at) ∙ ap (λ k. cells_in f (take k plane)) (sym next);
+    }
+  where
+    least : (n m : ℕ) → n < m → min n m ≡ n
+    least n m h = omega (arith, h)
+
+    first : (n : ℕ) (xs : List Bool) → n < length xs → length (take n xs) ≡ n
+    first n xs h = length-take n xs ∙ least n (length xs) h
+
+pub all_listed : (f : Frame) (plane : List Bool) (list : List Cell) (n : ℕ) → IsListing f plane list n → n ≡ cells_of f → list ≡ cells_in f plane
+all_listed f plane list n l e = l.is ∙ ap (λ k. cells_in f (take k plane)) (e ∙ sym l.sized) ∙ ap (λ xs. cells_in f xs) (take-length plane)
+
+-- ---- the count so far
+
+places_few : (k : ℕ) (bits : List Bool) → length (places_from k bits) ≤ length bits
+places_few k [] = omega arith
+places_few k (b ∷ bits) = by_bool b (λ e. rw e (omega (arith, places_few (suc k) bits))) (λ e. rw e (omega (arith, places_few (suc k) bits)))
+
+map_length : {X Y : Type 0} (f : X → Y) (xs : List X) → length (map f xs) ≡ length xs
+map_length f [] = refl
+map_length f (x ∷ xs) = ap suc (map_length f xs)
+
+pub cells_few : (f : Frame) (plane : List Bool) → length (cells_in f plane) ≤ length plane
+unfolding cells_in
+cells_few f plane = rw (map_length (cell_of_place f) (places_from 0 plane)) (places_few 0 plane)
+
+-- the cells at the first n places of the plane are counted
+pub record IsCounting (f : Frame) (plane : List Bool) (count n : ℕ) : Type 0 where
+  pub list : List Cell
+  pub listing : IsListing f plane list n
+  pub count_is : count ≡ length list
+  pub few : count ≤ n
+
+pub none_counted : (f : Frame) (plane : List Bool) (count n : ℕ) → length plane ≡ cells_of f → count ≡ 0 → n ≡ 0 → IsCounting f plane count n
+none_counted f plane count n sized e none = record { list = []; listing = none_listed f plane [] n sized refl none; count_is = e; few = omega (arith, e) }
+
+pub counting_at : (f : Frame) (plane : List Bool) (count n m : ℕ) → n ≡ m → IsCounting f plane count n → IsCounting f plane count m
+counting_at f plane count n m e l = record { list = l.list; listing = listing_at f plane l.list n m e l.listing; count_is = l.count_is; few = omega (arith, l.few, e) }
+
+pub one_counted : (f : Frame) (plane : List Bool) (count more n m : ℕ) (c : Cell) (on : Bool) → IsCounting f plane count n → InFrame f c → place_of f c ≡ n → on ≡ get_or plane (place_of f c) false
+    → more ≡ count + cond on 1 0 → m ≡ n + 1 → IsCounting f plane more m
+one_counted f plane count more n m c on l inside at is_on e next = record {
+  list = l.list ++ cond on (c ∷ []) [];
+  listing = one_listed f plane l.list (l.list ++ cond on (c ∷ []) []) n m c on l.listing inside at is_on refl next;
+  count_is = e ∙ ap (λ k. k + cond on 1 0) l.count_is ∙ longer on l.list;
+  few = step on (λ b. e);
+}
+  where
+    plus_none : (k : ℕ) → k + 0 ≡ k
+    plus_none k = omega arith
+
+    longer : (on : Bool) (list : List Cell) → length list + cond on 1 0 ≡ length (list ++ cond on (c ∷ []) [])
+    longer true list = sym (length-append list (c ∷ []))
+    longer false list = plus_none (length list) ∙ ap length (sym (append-nil list))
+
+    step : (b : Bool) → (Bool → more ≡ count + cond b 1 0) → more ≤ m
+    step true h = omega (arith, h true, l.few, next)
+    step false h = omega (arith, h true, l.few, next)
+
+pub all_counted : (f : Frame) (plane : List Bool) (count n : ℕ) → IsCounting f plane count n → n ≡ cells_of f → count ≡ length (cells_in f plane)
+all_counted f plane count n l e = l.count_is ∙ ap length (all_listed f plane l.list n l.listing e)
+
+-- every plane has each cell
+pub plane_sized : (g : Grid) (plane : Plane) (f : Frame) → f ≡ g.frame → IsSized g → length (plane_of g plane) ≡ cells_of f
+plane_sized g Kept f e s = s.kept ∙ ap cells_of (sym e)
+plane_sized g Allowed f e s = s.allowed ∙ ap cells_of (sym e)
+plane_sized g Pass f e s = s.pass ∙ ap cells_of (sym e)
+plane_sized g Visited f e s = s.visited ∙ ap cells_of (sym e)
+plane_sized g Swept f e s = s.swept ∙ ap cells_of (sym e)

@@ -1,16 +1,19 @@
 -- What the planes of a side's grid tell.
-use Rattle.std.proofs.Common.{◌≡◌, ◌≢◌, ◌↔◌, ◌⊎◌, inl, inr, ℕ, zero, suc, ◌+◌, ◌<◌, ◌≤◌, ℤ, pos, ◌≤ℤ◌, ◌<ℤ◌, Bool, true, false, cond, not, ◌||◌, List, [], ◌∷◌, length, slice_index_or, Result, Ok, refl, sym, ap, subst, ◌∙◌, arith}
+use Rattle.std.proofs.Common.{◌≡◌, ◌≢◌, ◌↔◌, ◌⊎◌, inl, inr, ℕ, zero, suc, ◌+◌, ◌<◌, ◌≤◌, ℤ, pos, neg_ℤ, ◌-ℤ◌, ◌≤ℤ◌, ◌<ℤ◌, Bool, true, false, cond, not, ◌||◌, List, [], ◌∷◌, ◌++◌, take, get_or, length, slice_index_or, Result, Ok, refl, sym, ap, subst, ◌∙◌, arith}
 use Rattle.std.specs.List.{All, Contains, list_any}
 use Rattle.std.proofs.lemmas.Bool.{false≢true}
+use Rattle.std.proofs.lemmas.List.{take_more}
 use Rattle.std.proofs.lemmas.List.Elements.{All-nil, All-cons}
 use borrow.Author.Differences.{ints}
 use Rattle.number_laws.proofs.Tests.{by_bool}
+use Rattle.board_base.specs.declared.places.Point.{Point}
 use Rattle.board_base.specs.declared.places.Cell.{Cell}
 use Rattle.board_base.specs.Lattice.{AreNeighbours, centre_of, half_diagonal_of, dist2}
 use Rattle.board_base.specs.Near.{near_of}
-use Rattle.board_base.specs.Places.{IsPlace}
+use Rattle.board_base.specs.Places.{IsPlace, IsNearPlace}
 use Rattle.board_base.specs.Contour.{IsAllowed, IsContour}
 use Rattle.cell_grid.specs.declared.frames.Frame.{Frame}
+use Rattle.cell_grid.specs.Grid.{Grid}
 use Rattle.cell_grid.specs.Place.{InFrame, place_of, cells_of}
 use Rattle.cell_grid.specs.Cells.{in_frame, in_plane, number_in, is_above, IsOnBorder}
 use Rattle.cell_grid.specs.Islands.{AreIslands}
@@ -33,6 +36,21 @@ use Rattle.mill_plan.specs.Raster.{IsFarAtEdge, is_marked, PartsSwept, IsRasterO
 use Rattle.mill_plan.proofs.FrameLaws.{kept_roomy, far_at_edge}
 use Rattle.mill_plan.proofs.ListedLaws.{list_of, count_of_list}
 use Rattle.mill_plan.proofs.SweptLaws.{near_within, within_near, groups_free, groups_allowed, joined_allowed}
+
+-- a place is one that may be asked about
+pub near_place : (p : Point) → IsPlace p → IsNearPlace p
+near_place p h = record { x_in = record { low = low p.x h.x.low; high = high p.x h.x.high }; y_in = record { low = low p.y h.y.low; high = high p.y h.y.high } }
+  where
+    low : (v : ℤ) → neg_ℤ (pos 500000000) ≤ℤ v → neg_ℤ (pos 500100000) ≤ℤ v
+    low v h = omega (arith, ints)
+
+    high : (v : ℤ) → v ≤ℤ pos 500000000 → v ≤ℤ pos 500100000
+    high v h = omega (arith, ints)
+
+-- half a diagonal isn't negative
+pub half_low : (p : ℤ) → pos 0 ≤ℤ half_diagonal_of p
+unfolding half_diagonal_of
+half_low p = omega (arith, ints)
 
 -- ---- the kept cells
 
@@ -200,3 +218,42 @@ module _ (job : Job) (painted : List Painted) (f : Frame) (ok : IsJob job) (g : 
         lists = lists;
         parts = parts_are number raster.islands raster.groups.items barrier numbers lists;
       }
+
+-- ---- marking
+
+-- the cells that these centres sweep are marked, and nothing else has changed
+pub record IsSweeping (start g : Grid) (width : ℤ) (centres : List Cell) : Type 0 where
+  pub rest : g ≡ record start { swept = g.swept }
+  pub marks : (c : Cell) → InFrame start.frame c → in_plane start.frame g.swept c ≡ (in_plane start.frame start.swept c || is_marked start.frame.pitch width centres c)
+
+pub none_swept : (start : Grid) (width : ℤ) → IsSweeping start start width []
+none_swept start width = record { rest = refl; marks = λ c inside. sym (or_false (in_plane start.frame start.swept c)) }
+  where
+    or_false : (b : Bool) → (b || false) ≡ b
+    or_false true = refl
+    or_false false = refl
+
+pub one_swept : (start g h : Grid) (width : ℤ) (centres : List Cell) (k : ℕ) (v : Cell) → IsSweeping start g width (take k centres) → k < length centres → v ≡ get_or centres k v → h ≡ record g { swept = h.swept }
+    → ((c : Cell) → InFrame g.frame c → in_plane g.frame h.swept c ≡ (in_plane g.frame g.swept c || near_of (centre_of g.frame.pitch c) (centre_of start.frame.pitch v) (centre_of start.frame.pitch v) width))
+    → IsSweeping start h width (take (k + 1) centres)
+one_swept start g h width centres k v s small is rest marks = record {
+  rest = rest ∙ ap (λ (x : Grid). record x { swept = h.swept }) s.rest;
+  marks = λ c inside.
+      let same : g.frame ≡ start.frame = ap (λ (x : Grid). x.frame) s.rest in
+      let now = subst (λ (f : Frame). in_plane f h.swept c ≡ (in_plane f g.swept c || near_of (centre_of f.pitch c) (centre_of start.frame.pitch v) (centre_of start.frame.pitch v) width)) same (marks c (subst (λ (f : Frame). InFrame f c) (sym same) inside)) in
+      let test : Cell → Bool = λ w. near_of (centre_of start.frame.pitch c) (centre_of start.frame.pitch w) (centre_of start.frame.pitch w) width in
+      now ∙ ap (λ b. b || test v) (s.marks c inside) ∙ joined (in_plane start.frame start.swept c) (list_any test (take k centres)) (test v)
+      ∙ ap (λ b. in_plane start.frame start.swept c || b) (sym (any_more test (take k centres) v) ∙ ap (list_any test) (sym (take_more centres k v small ∙ ap (λ w. take k centres ++ w ∷ []) (sym is))));
+}
+  where
+    joined : (a b d : Bool) → ((a || b) || d) ≡ (a || (b || d))
+    joined true b d = refl
+    joined false b d = refl
+
+    any_more : (test : Cell → Bool) (xs : List Cell) (x : Cell) → list_any test (xs ++ x ∷ []) ≡ (list_any test xs || test x)
+    any_more test [] x = last (test x)
+      where
+        last : (b : Bool) → (b || false) ≡ b
+        last true = refl
+        last false = refl
+    any_more test (y ∷ xs) x = ap (λ b. test y || b) (any_more test xs x) ∙ sym (joined (test y) (list_any test xs) (test x))

@@ -7,7 +7,7 @@ ghost use Rattle.mill_plan.specs.declared.limits.LimitHit.{LimitHit};
 ghost use Rattle.mill_plan.specs.declared.limits.PlanError.TheVariants as PlanError;
 
 use crate::program::program;
-use crate::raster::raster;
+use crate::raster::make_raster;
 use crate::{Job, LimitHit, PlanError};
 use cell_grid::Frame;
 use mill_program::{Program, run_law};
@@ -45,7 +45,7 @@ pub fn isolate(alloc: Global, painted: &Vec<Painted>, job: &Job) -> Result<Isola
     scaled_sweep_law();
     one_count_law();
     run_law();
-    let raster = raster(alloc, painted, job)?;
+    let raster = make_raster(alloc, painted, job)?;
     let program = program(alloc, &raster.centres, job)?;
     Ok(Isolation {
         frame: raster.frame,

@@ -1,9 +1,10 @@
 // What the grid of a side tells: its counts, the cells of its contour, and its groups.
-ghost use Rattle.std.specs.Prelude.{◌≡◌, ◌↔◌, ◌≤◌, ℕ, pos, ◌≤ℤ◌, true, not, ◌||◌, length, IfOk, IsErrOf, List};
+ghost use Rattle.std.specs.Prelude.{◌≡◌, ◌↔◌, ◌≤◌, ℕ, pos, true, not, ◌||◌, ◌++◌, ◌∷◌, [], cond, length, IfOk, OnOk, IsErrOf, List};
 ghost use Rattle.std.specs.List.{All};
 ghost use Rattle.board_base.specs.declared.places.Cell.{Cell};
 ghost use Rattle.board_base.specs.Lattice.{IsPitch, centre_of};
-ghost use Rattle.board_base.specs.Places.{IsPlace, IsNearPlace};
+ghost use Rattle.board_base.specs.Places.{IsPlace};
+ghost use Rattle.board_base.specs.Near.{near_of};
 ghost use Rattle.board_base.specs.Contour.{IsAllowed, IsContour};
 ghost use Rattle.cell_grid.specs.Place.{InFrame};
 ghost use Rattle.cell_grid.specs.Cells.{in_plane, number_in, is_above};
@@ -70,6 +71,24 @@ fn traced(bench: &mut Workbench, guard: u64)
     contour(bench, guard);
 }
 
+// Adds the cell where the test is true.
+fn push_if(list: &mut Vec<Cell>, c: Cell, on: bool) -> Result<(), AllocError>
+    ensures { OnOk result (list.new.items ≡ list.old.items ++ cond on (c ∷ []) []) }
+{
+    if on {
+        list.push(c)?;
+    }
+    Ok(())
+}
+
+// One where the test is true.
+fn one_if(on: bool) -> u64
+    ensures value { result ≡ cond on 1 0 }
+    ensures small { result ≤ 1 }
+{
+    if on { 1 } else { 0 }
+}
+
 // The cells of a plane, in the order of rows.
 fn cells(alloc: Global, bench: &Workbench, plane: Plane) -> Result<Vec<Cell>, AllocError>
     ensures { IfOk result (λ list. list.items ≡ cells_in bench.now.frame (plane_of bench.now plane)) }
@@ -79,9 +98,8 @@ fn cells(alloc: Global, bench: &Workbench, plane: Plane) -> Result<Vec<Cell>, Al
     'rows: for y in 0..frame.height {
         'cells: for x in 0..frame.width {
             let c = cell_at(frame, x, y);
-            if bench.get(plane, c) {
-                list.push(c)?;
-            }
+            let on = bench.get(plane, c);
+            push_if(&mut list, c, on)?;
         }
     }
     Ok(list)
@@ -95,29 +113,48 @@ fn count(bench: &Workbench, plane: Plane) -> u64
     let mut count = 0;
     'rows: for y in 0..frame.height {
         'cells: for x in 0..frame.width {
-            if bench.get(plane, cell_at(frame, x, y)) {
-                count += 1;
-            }
+            let c = cell_at(frame, x, y);
+            count += one_if(bench.get(plane, c));
         }
     }
     count
 }
 
-// Marks what the visited centres sweep.
-fn sweep(bench: &mut Workbench, centres: &Vec<Cell>, width: i64)
+// A width as a length.
+fn length_of(width: u64) -> i64
+    requires { width ≤ 4000000000 }
+    ensures { result ≡ pos width }
+{
+    width as i64
+}
+
+// Marks what one visited centre sweeps.
+fn sweep_from(bench: &mut Workbench, v: Cell, width: u64)
     requires pitch { IsPitch (bench.old).frame.pitch }
-    requires places { (c : Cell) → InFrame (bench.old).frame c → IsNearPlace (centre_of (bench.old).frame.pitch c) }
-    requires centres { All (λ c. IsPlace (centre_of (bench.old).frame.pitch c)) centres.now.items }
-    requires low { pos 0 ≤ℤ width }
-    requires high { width ≤ℤ pos 4000000000 }
+    requires places { (c : Cell) → InFrame (bench.old).frame c → IsPlace (centre_of (bench.old).frame.pitch c) }
+    requires centre { IsPlace (centre_of (bench.old).frame.pitch v) }
+    requires width { width ≤ 4000000000 }
     ensures rest { bench.new ≡ record bench.old { swept = (bench.new).swept } }
     ensures marks { (c : Cell) → InFrame (bench.old).frame c → in_plane (bench.old).frame (bench.new).swept c
-        ≡ (in_plane (bench.old).frame (bench.old).swept c || is_marked (bench.old).frame.pitch width centres.now.items c) }
+        ≡ (in_plane (bench.old).frame (bench.old).swept c
+        || near_of (centre_of (bench.old).frame.pitch c) (centre_of (bench.old).frame.pitch v) (centre_of (bench.old).frame.pitch v) (pos width)) }
 {
-    let pitch = bench.frame().pitch;
+    let place = centre(v, bench.frame().pitch);
+    mark_swept(bench, place, place, length_of(width));
+}
+
+// Marks what the visited centres sweep.
+fn sweep(bench: &mut Workbench, centres: &Vec<Cell>, width: u64)
+    requires pitch { IsPitch (bench.old).frame.pitch }
+    requires places { (c : Cell) → InFrame (bench.old).frame c → IsPlace (centre_of (bench.old).frame.pitch c) }
+    requires centres { All (λ c. IsPlace (centre_of (bench.old).frame.pitch c)) centres.now.items }
+    requires width { width ≤ 4000000000 }
+    ensures rest { bench.new ≡ record bench.old { swept = (bench.new).swept } }
+    ensures marks { (c : Cell) → InFrame (bench.old).frame c → in_plane (bench.old).frame (bench.new).swept c
+        ≡ (in_plane (bench.old).frame (bench.old).swept c || is_marked (bench.old).frame.pitch (pos width) centres.now.items c) }
+{
     'centres: for c in centres {
-        let place = centre(*c, pitch);
-        mark_swept(bench, place, place, width);
+        sweep_from(bench, *c, width);
     }
 }
 
@@ -131,7 +168,7 @@ fn grouped(alloc: Global, bench: &mut Workbench) -> Result<Vec<Group>, AllocErro
 }
 
 /// What the grid of the image tells.
-pub(crate) fn raster(alloc: Global, painted: &Vec<Painted>, job: &Job) -> Result<Raster, PlanError>
+pub(crate) fn make_raster(alloc: Global, painted: &Vec<Painted>, job: &Job) -> Result<Raster, PlanError>
     requires job { IsJob job.now }
     ensures raster { IfOk result (IsRasterOf job.now painted.now.items) }
     ensures limit { (hit : LimitHit) → IsErrOf result (PlanError.Limit hit) → HitsLimit job.now painted.now.items hit }

@@ -8,8 +8,8 @@ use Rattle.copper_cover.proofs.cells.paint.Goals as goal
 pub paint_window-requires-clause-round : goal.paint_window-requires-clause-round
 paint_window-requires-clause-round c =
     let a : SFits w64 c.args.h = c.ranges.h in
-    round_is c.frame.result c.args.bench.now.frame c.in-Some.bounds c.args.h c.window_round-window.result c.args.object.now c.frame.ensures.value c.requires.h (sym c.bounds.ensures ∙ c.in-Some.is)
+    round_is c.frame.result c.args.bench.now.frame c.in-Some.bounds c.args.h c.window_round-window.result c.args.object.now c.frame.ensures.value c.requires.h (sym c.bounds.ensures.value ∙ c.in-Some.is)
     (λ d i. simp to_z-of_z at (c.window_round-window.ensures.holds d i))
 
 pub returns-in-None-clause-kept : goal.returns-in-None-clause-kept
-returns-in-None-clause-kept c = λ d i. none_is c.args.bench.now.frame.pitch c.args.object.now d _ (sym c.bounds.ensures ∙ c.in-None.is)
+returns-in-None-clause-kept c = λ d i. none_is c.args.bench.now.frame.pitch c.args.object.now d _ (sym c.bounds.ensures.value ∙ c.in-None.is)
