@@ -4,7 +4,7 @@ ghost use Rattle.board_base.specs.declared.places.Cell.{Cell};
 ghost use Rattle.cell_grid.specs.Place.{cells_of};
 ghost use Rattle.cell_grid.specs.Grid.{plane_of};
 ghost use Rattle.cell_grid.specs.Cells.{in_plane, number_in};
-ghost use Rattle.cell_grid.specs.Chains.{IsClasses};
+ghost use Rattle.cell_grid.specs.Chains.{IsBefore, IsClasses};
 ghost use Rattle.cell_grid.specs.Islands.{AreIslands};
 ghost use Rattle.cell_classes.specs.Taken.{is_taken, outer_number};
 ghost use Rattle.cell_classes.specs.Floods.{ChangesNumbers};
@@ -100,6 +100,9 @@ pub fn number_rest(bench: &mut Workbench, plane: Plane) -> u32
     ensures rest { ChangesNumbers bench.old bench.new }
     ensures classes { IsClasses (λ c. not (in_plane bench.old.frame (plane_of bench.old plane) c)) (number_in bench.old.frame 1 (bench.new).works) }
     ensures few { (c : Cell) → number_in bench.old.frame 1 (bench.new).works c ≤ result }
+    ensures order { (c : Cell) (u : ℕ) → 1 < u → u < number_in bench.old.frame 1 (bench.new).works c
+        → (b : Cell) × (IsBefore b c × (number_in bench.old.frame 1 (bench.new).works b ≡ u)) }
+    ensures present { (u : ℕ) → 1 < u → u ≤ result → (b : Cell) × (number_in bench.old.frame 1 (bench.new).works b ≡ u) }
     ensures most { result ≤ cells_of bench.old.frame + 1 }
 {
     clear_works(bench);

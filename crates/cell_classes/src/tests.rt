@@ -35,14 +35,15 @@ fn drawn(alloc: Global, cells: &[(i32, i32)]) -> Option<Workbench> {
 // The working labels of a row.
 fn row(bench: &Workbench, y: i32) -> [u32; 5] {
     let mut numbers = [99; 5];
-    for x in 0..5 {
-        let c = Cell {
-            i: x as i32 - 2,
-            j: y.wrapping_add(7),
-        };
+    let mut c = Cell {
+        i: -2,
+        j: y.wrapping_add(7),
+    };
+    for number in numbers.iter_mut() {
         if is_in_frame(bench.frame(), c) {
-            numbers[x] = bench.work(c);
+            *number = bench.work(c);
         }
+        c.i = c.i.wrapping_add(1);
     }
     numbers
 }

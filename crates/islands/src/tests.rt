@@ -5,20 +5,23 @@ use cell_grid::{Frame, Plane, Workbench, is_in_frame};
 use std::alloc::Global;
 
 // A grid with a kept cell at every second column and row: each is an island of its own.
-fn dotted(alloc: Global, width: u32, height: u32) -> Option<Workbench> {
+fn dotted(alloc: Global, width: u16, height: u16) -> Option<Workbench> {
     let frame = Frame {
         pitch: 2000,
         i0: 0,
         j0: 0,
-        width: width % 1024,
-        height: height % 1024,
+        width: width as u32,
+        height: height as u32,
     };
     let Ok(mut bench) = Workbench::reserve(alloc, frame) else {
         return None;
     };
-    for j in 0..512 {
-        for i in 0..512 {
-            let c = Cell { i: 2 * i, j: 2 * j };
+    for j in 0..512_u16 {
+        for i in 0..512_u16 {
+            let c = Cell {
+                i: i as i32 * 2,
+                j: j as i32 * 2,
+            };
             if is_in_frame(bench.frame(), c) {
                 bench.set(Plane::Kept, c, true);
             }

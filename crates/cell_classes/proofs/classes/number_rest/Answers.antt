@@ -24,5 +24,7 @@ returns c =
       rest = changes_both g g3 g4 to3 c.number_from.ensures.rest;
       classes = classes_of _ _ _ _ q;
       few = q.few;
+      order = q.order;
+      present = q.present;
       most = omega (arith, q.most);
     }
