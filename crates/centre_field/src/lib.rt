@@ -12,3 +12,6 @@ mod rows;
 pub use centres::allowed;
 pub use clearances::clearance;
 pub use plain::plain_clearance;
+
+#[cfg(test)]
+mod tests;
