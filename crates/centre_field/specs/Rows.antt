@@ -1,10 +1,10 @@
--- The least square at each place of a row, by the columns that are the nearest somewhere.
+-- The least squared distance at each place of a row, by the columns that are the nearest somewhere.
 use Rattle.std.specs.Prelude.{◌≡◌, ℕ, suc, ◌+◌, ◌-◌, ◌*◌, ◌/◌, ◌<◌, ◌≤◌, ◌⊎◌, ◌==◌, Bool, true, not, nat_lt, cond, List, slice_index, slice_set}
 use Rattle.cell_grid.specs.Grid.{Grid}
 use Rattle.centre_field.specs.Distances.{none, square_gap, IsLeast}
 use Rattle.centre_field.specs.Columns.{number_at}
 
--- the squared distance from column x to column a, and what column a has besides
+-- the squared distance from column x to the nearest kept cell of column a, whose squared distance along the column is known
 unfoldable pub value_at : (ℕ → ℕ) → ℕ → ℕ → ℕ
 value_at squares x a = square_gap x a + squares a
 
@@ -43,11 +43,11 @@ pub record IsShort (width : ℕ) (scratch : List ℕ) (j : ℕ) : Type 0 where
   pub start : start_at scratch j < width
   pub square : square_at scratch j ≤ 1073676289
 
--- whether column a of row y has a kept cell
+-- whether column a has a kept cell, by its distance in row y
 abbrev pub has_distance : Grid → ℕ → ℕ → Bool
 has_distance g y a = not (number_at g a y == none)
 
--- the square of the distance of column a in row y
+-- the square of the distance in column a and row y
 abbrev pub square_in : Grid → ℕ → ℕ → ℕ
 square_in g y a = number_at g a y * number_at g a y
 
