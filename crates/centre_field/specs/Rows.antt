@@ -23,13 +23,15 @@ pub record IsEnvelope (part : ℕ → Bool) (squares : ℕ → ℕ) (width : ℕ
   pub best : (x j e : ℕ) → x < width → j < n → starts j ≤ x → (suc j < n → x < starts (suc j)) → e < b → part e ≡ true
       → value_at squares x (columns j) ≤ value_at squares x e
 
--- three scratch numbers for each listed column: the column, its start and its square
+-- the column listed at j: the first of its three scratch numbers
 abbrev pub column_at : List ℕ → ℕ → ℕ
 column_at scratch j = slice_index scratch (3 * j)
 
+-- where the column listed at j starts
 abbrev pub start_at : List ℕ → ℕ → ℕ
 start_at scratch j = slice_index scratch (3 * j + 1)
 
+-- the square of the column listed at j
 abbrev pub square_at : List ℕ → ℕ → ℕ
 square_at scratch j = slice_index scratch (3 * j + 2)
 
