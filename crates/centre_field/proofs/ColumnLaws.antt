@@ -1,12 +1,12 @@
 -- Distances along columns: one row further, upwards and downwards.
-use Rattle.std.proofs.Common.{◌≡◌, ◌≢◌, ℕ, ◌<◌, ◌≤◌, ◌+◌, ◌-◌, ◌*◌, ◌/◌, ◌%◌, ◌==◌, ◌⊎◌, inl, inr, Bool, true, false, cond, min, List, length, get_or, set, refl, sym, ap, subst, ◌∙◌, arith}
+use Rattle.std.proofs.Common.{◌≡◌, ℕ, ◌<◌, ◌≤◌, ◌+◌, ◌-◌, ◌*◌, ◌/◌, ◌%◌, ◌⊎◌, inl, inr, Bool, true, false, min, get_or, refl, sym, ap, subst, ◌∙◌, arith}
 use Rattle.std.proofs.lemmas.Bool.{cases_lt, cases_eq}
 use Rattle.std.proofs.lemmas.Nat.{mod-mul-add, div-mul-add, mul-add-lt}
 use Rattle.std.proofs.lemmas.Bool.Decides.{nat_tests}
 use Rattle.std.proofs.Math.Nat.{mul-le-mul_right}
 use Rattle.std.specs.Int.{abs_diff}
 use Rattle.cell_grid.specs.declared.frames.Frame.{Frame}
-use Rattle.cell_grid.specs.Grid.{Grid, IsSized}
+use Rattle.cell_grid.specs.Grid.{Grid}
 use Rattle.cell_grid.specs.Place.{IsFrame, cells_of}
 use Rattle.centre_field.specs.Distances.{none, IsLeast}
 use Rattle.centre_field.specs.Columns.{is_kept_in, IsNearest, number_at, further, ChangesRow, AreUpward, AreNearest}

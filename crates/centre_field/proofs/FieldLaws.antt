@@ -1,16 +1,16 @@
 -- Least squares over the places of a frame are clearances.
-use Rattle.std.proofs.Common.{◌≡◌, ℕ, ◌<◌, ◌≤◌, ◌+◌, ◌-◌, ◌*◌, ◌/◌, ◌%◌, ◌⊎◌, inl, inr, ℤ, pos, negsuc, ◌+ℤ◌, ◌-ℤ◌, ◌*ℤ◌, ◌≤ℤ◌, ◌<ℤ◌, unsigned_abs, int_le, int_lt, Bool, true, false, cond, ◌&&◌, List, get_or, refl, sym, ap, subst, ◌∙◌, arith}
+use Rattle.std.proofs.Common.{◌≡◌, ℕ, ◌<◌, ◌≤◌, ◌+◌, ◌*◌, ◌/◌, ◌%◌, ◌⊎◌, inl, inr, ℤ, pos, negsuc, ◌+ℤ◌, ◌-ℤ◌, ◌*ℤ◌, ◌≤ℤ◌, ◌<ℤ◌, unsigned_abs, int_le, int_lt, Bool, true, false, cond, ◌&&◌, List, get_or, refl, sym, ap, subst, ◌∙◌, arith}
 use Rattle.std.specs.Int.{abs_diff}
 use Rattle.std.proofs.lemmas.Nat.{div-add-mod', mod_below, div_below, mod-mul-add, div-mul-add}
 use borrow.Author.Differences.{ints}
 use Rattle.board_base.specs.declared.places.Cell.{Cell}
 use Rattle.board_base.specs.Lattice.{dist2}
 use Rattle.cell_grid.specs.declared.frames.Frame.{Frame}
-use Rattle.cell_grid.specs.Place.{IsFrame, InFrame, IsBetween, place_of, row_of, column_of, cells_of, cell_of_place}
+use Rattle.cell_grid.specs.Place.{InFrame, IsBetween, place_of, row_of, column_of, cells_of, cell_of_place}
 use Rattle.cell_grid.specs.Cells.{in_frame, in_plane, number_in}
 use Rattle.cell_grid.specs.Clearance.{IsClearance}
-use Rattle.cell_grid.proofs.PlaceLaws.{place_below, cell_of_place-place_of}
-use Rattle.centre_field.specs.Distances.{square_gap, square_to_place, none, IsLeast, is_kept_at}
+use Rattle.cell_grid.proofs.PlaceLaws.{place_below}
+use Rattle.centre_field.specs.Distances.{square_gap, square_to_place, IsLeast, is_kept_at}
 use Rattle.centre_field.proofs.LeastLaws.{square_to}
 
 both : (a b c d : Bool) → a ≡ true → b ≡ true → c ≡ true → d ≡ true → ((a && b) && (c && d)) ≡ true

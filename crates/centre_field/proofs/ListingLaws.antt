@@ -1,16 +1,14 @@
 -- The list of columns, one column further.
-use Rattle.std.proofs.Common.{◌≡◌, ◌≢◌, ℕ, suc, ◌<◌, ◌≤◌, ◌+◌, ◌-◌, ◌*◌, ◌==◌, ◌⊎◌, inl, inr, Bool, true, false, not, List, length, get_or, set, refl, sym, ap, subst, ◌∙◌, arith, get_or-set_other, get_or-set_same}
-use Rattle.std.proofs.lemmas.Bool.{cases_lt, cases_eq}
+use Rattle.std.proofs.Common.{◌≡◌, ◌≢◌, ℕ, suc, ◌<◌, ◌≤◌, ◌+◌, ◌-◌, ◌*◌, ◌==◌, inl, inr, true, not, List, length, get_or, set, sym, ap, subst, ◌∙◌, arith, get_or-set_other, get_or-set_same}
+use Rattle.std.proofs.lemmas.Bool.{cases_eq}
 use Rattle.std.proofs.lemmas.Bool.Decides.{nat_tests}
 use Rattle.std.proofs.lemmas.List.{length-set}
 use Rattle.std.proofs.lemmas.Nat.{mul-le}
-use Rattle.number_laws.proofs.Tests.{by_bool}
-use Rattle.cell_grid.specs.declared.frames.Frame.{Frame}
-use Rattle.cell_grid.specs.Grid.{Grid, IsSized}
-use Rattle.cell_grid.specs.Place.{IsFrame, cells_of, scratch_of}
-use Rattle.centre_field.specs.Distances.{none, square_gap, IsLeast}
+use Rattle.cell_grid.specs.Grid.{Grid}
+use Rattle.cell_grid.specs.Place.{scratch_of}
+use Rattle.centre_field.specs.Distances.{none, square_gap}
 use Rattle.centre_field.specs.Columns.{number_at}
-use Rattle.centre_field.specs.Rows.{value_at, start_from, IsEnvelope, column_at, start_at, square_at, listed_at, IsShort, has_distance, square_in, AreDistances, IsListing, IsLeastInRow}
+use Rattle.centre_field.specs.Rows.{value_at, start_from, column_at, start_at, square_at, listed_at, IsShort, has_distance, square_in, IsListing}
 use Rattle.centre_field.proofs.Parabola.{start_of, started, not_started}
 use Rattle.centre_field.proofs.Entering.{entered, late, skipped, begun}
 

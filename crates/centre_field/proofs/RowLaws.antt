@@ -1,13 +1,12 @@
 -- Rows of least values: listed, written, and one after the other.
-use Rattle.std.proofs.Common.{◌≡◌, ◌≢◌, ℕ, suc, ◌<◌, ◌≤◌, ◌+◌, ◌-◌, ◌*◌, ◌==◌, ◌⊎◌, inl, inr, Bool, true, false, not, List, length, get_or, set, refl, sym, ap, subst, ◌∙◌, arith}
-use Rattle.std.proofs.lemmas.Bool.{cases_lt, cases_eq}
+use Rattle.std.proofs.Common.{◌≡◌, ◌≢◌, ℕ, suc, ◌<◌, ◌≤◌, ◌+◌, ◌*◌, ◌==◌, ◌⊎◌, inl, inr, Bool, true, false, not, List, get_or, set, refl, sym, ap, subst, ◌∙◌, arith}
+use Rattle.std.proofs.lemmas.Bool.{cases_eq}
 use Rattle.std.proofs.lemmas.Bool.Decides.{nat_tests}
 use Rattle.std.proofs.Math.Nat.{mul-le-mul_right}
-use Rattle.number_laws.proofs.Tests.{by_bool}
 use Rattle.board_base.specs.declared.places.Cell.{Cell}
 use Rattle.cell_grid.specs.declared.frames.Frame.{Frame}
 use Rattle.cell_grid.specs.Grid.{Grid, IsSized}
-use Rattle.cell_grid.specs.Place.{IsFrame, place_of, cells_of}
+use Rattle.cell_grid.specs.Place.{IsFrame, place_of}
 use Rattle.centre_field.specs.Distances.{none, square_gap, IsLeast}
 use Rattle.centre_field.specs.Columns.{number_at, ChangesRow}
 use Rattle.centre_field.specs.Rows.{value_at, column_at, start_at, square_at, IsShort, has_distance, square_in, AreDistances, IsListing, IsLeastInRow, FinishesRow, AreLeastInRows}

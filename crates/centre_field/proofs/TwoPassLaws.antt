@@ -1,5 +1,5 @@
 -- The least along the row of the squares along the columns is the least square over the frame.
-use Rattle.std.proofs.Common.{◌≡◌, ◌≢◌, ℕ, ◌<◌, ◌≤◌, ◌+◌, ◌-◌, ◌*◌, ◌/◌, ◌%◌, ◌==◌, ◌⊎◌, inl, inr, Bool, true, false, not, List, get_or, refl, sym, ap, subst, ◌∙◌, arith}
+use Rattle.std.proofs.Common.{◌≡◌, ℕ, ◌<◌, ◌≤◌, ◌+◌, ◌*◌, ◌/◌, ◌%◌, ◌==◌, ◌⊎◌, inl, inr, Bool, true, false, not, get_or, refl, sym, ap, subst, ◌∙◌, arith}
 use Rattle.std.proofs.lemmas.Nat.{div-add-mod', mod_below, div_below, mul-add-lt, mul-le}
 use Rattle.std.specs.Int.{abs_diff}
 use Rattle.board_base.specs.declared.places.Cell.{Cell}
@@ -8,9 +8,9 @@ use Rattle.cell_grid.specs.Grid.{Grid}
 use Rattle.cell_grid.specs.Place.{IsFrame, InFrame, place_of, row_of, column_of, cells_of}
 use Rattle.cell_grid.specs.Cells.{in_plane, number_in}
 use Rattle.cell_grid.specs.Clearance.{IsClearance}
-use Rattle.centre_field.specs.Distances.{none, square_gap, square_to_place, is_kept_at, IsLeast, IsLeastSquare}
-use Rattle.centre_field.specs.Columns.{is_kept_in, IsNearest, number_at, AreNearest}
-use Rattle.centre_field.specs.Rows.{value_at, has_distance, square_in, AreDistances, IsLeastInRow, AreLeastInRows}
+use Rattle.centre_field.specs.Distances.{none, square_gap, square_to_place, is_kept_at, IsLeastSquare}
+use Rattle.centre_field.specs.Columns.{IsNearest, number_at, AreNearest}
+use Rattle.centre_field.specs.Rows.{value_at, AreDistances, IsLeastInRow, AreLeastInRows}
 use Rattle.centre_field.proofs.LeastLaws.{square_to}
 use Rattle.centre_field.proofs.ListingLaws.{some_distance}
 use Rattle.centre_field.proofs.RowLaws.{is_none}

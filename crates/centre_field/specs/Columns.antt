@@ -1,5 +1,5 @@
 -- Distances along a column.
-use Rattle.std.specs.Prelude.{◌≡◌, ℕ, ◌+◌, ◌*◌, ◌<◌, ◌≤◌, ◌⊎◌, ◌==◌, Bool, false, cond, List, slice_index, slice_index_or}
+use Rattle.std.specs.Prelude.{◌≡◌, ℕ, ◌+◌, ◌*◌, ◌<◌, ◌≤◌, ◌==◌, Bool, false, cond, slice_index, slice_index_or}
 use Rattle.std.specs.Int.{abs_diff}
 use Rattle.cell_grid.specs.Grid.{Grid}
 use Rattle.centre_field.specs.Distances.{none, IsLeast}
@@ -26,10 +26,10 @@ pub record ChangesRow (old new : Grid) (y : ℕ) : Type 0 where
   pub before : (k : ℕ) → k < y * old.frame.width → slice_index new.clearances k ≡ slice_index old.clearances k
   pub after : (k : ℕ) → y * old.frame.width + old.frame.width ≤ k → slice_index new.clearances k ≡ slice_index old.clearances k
 
--- each number holds the distance to the nearest kept cell of its column at the row or to the south of it
+-- each number is the distance to the nearest kept cell of its column that is no farther north
 abbrev pub AreUpward : Grid → Grid → Type 0
 AreUpward old new = (x y : ℕ) → x < old.frame.width → y < old.frame.height → IsNearest old x y (y + 1) (number_at new x y)
 
--- each number holds the distance to the nearest kept cell of its column
+-- each number is the distance to the nearest kept cell of its column
 abbrev pub AreNearest : Grid → Grid → Type 0
 AreNearest old new = (x y : ℕ) → x < old.frame.width → y < old.frame.height → IsNearest old x y old.frame.height (number_at new x y)

@@ -1,10 +1,10 @@
--- The least square at each place of a row, by the columns that are the nearest somewhere.
+-- The least squared distance at each place of a row, by the columns that are the nearest somewhere.
 use Rattle.std.specs.Prelude.{◌≡◌, ℕ, suc, ◌+◌, ◌-◌, ◌*◌, ◌/◌, ◌<◌, ◌≤◌, ◌⊎◌, ◌==◌, Bool, true, not, nat_lt, cond, List, slice_index, slice_set}
 use Rattle.cell_grid.specs.Grid.{Grid}
 use Rattle.centre_field.specs.Distances.{none, square_gap, IsLeast}
 use Rattle.centre_field.specs.Columns.{number_at}
 
--- the squared distance from column x to column a, and what column a has besides
+-- the squared distance from column x to the nearest kept cell of column a, whose squared distance along the column is known
 unfoldable pub value_at : (ℕ → ℕ) → ℕ → ℕ → ℕ
 value_at squares x a = square_gap x a + squares a
 
@@ -23,13 +23,15 @@ pub record IsEnvelope (part : ℕ → Bool) (squares : ℕ → ℕ) (width : ℕ
   pub best : (x j e : ℕ) → x < width → j < n → starts j ≤ x → (suc j < n → x < starts (suc j)) → e < b → part e ≡ true
       → value_at squares x (columns j) ≤ value_at squares x e
 
--- three scratch numbers for each listed column: the column, its start and its square
+-- the column listed at j: the first of its three scratch numbers
 abbrev pub column_at : List ℕ → ℕ → ℕ
 column_at scratch j = slice_index scratch (3 * j)
 
+-- where the column listed at j starts
 abbrev pub start_at : List ℕ → ℕ → ℕ
 start_at scratch j = slice_index scratch (3 * j + 1)
 
+-- the square of the column listed at j
 abbrev pub square_at : List ℕ → ℕ → ℕ
 square_at scratch j = slice_index scratch (3 * j + 2)
 
@@ -43,11 +45,11 @@ pub record IsShort (width : ℕ) (scratch : List ℕ) (j : ℕ) : Type 0 where
   pub start : start_at scratch j < width
   pub square : square_at scratch j ≤ 1073676289
 
--- whether column a of row y has a kept cell
+-- whether column a has a kept cell, by its distance in row y
 abbrev pub has_distance : Grid → ℕ → ℕ → Bool
 has_distance g y a = not (number_at g a y == none)
 
--- the square of the distance of column a in row y
+-- the square of the distance in column a and row y
 abbrev pub square_in : Grid → ℕ → ℕ → ℕ
 square_in g y a = number_at g a y * number_at g a y
 

@@ -17,6 +17,7 @@ pub fn clearance(bench: &mut Workbench)
         → IsClearance (in_plane (bench.old).frame (bench.old).kept) c
         (number_in (bench.old).frame 4294967295 (bench.new).clearances c) }
 {
+    // A side has at most 32,768 cells.
     let _frame = bench.frame();
     sweep_columns(bench);
     finish_rows(bench);

@@ -1,5 +1,6 @@
-//! How far each cell is from the kept cells, and which cells are allowed to the centre of a tool. The
-//! way by which the clearances are found may change, so long as both programs keep one clause.
+//! How far each cell is from the kept cells, and which cells the centre of a tool may visit. How the
+//! clearances are found may change, and where in the scratch numbers their work stands; the clause
+//! `least` of the two programs is one, and may not.
 #![tactic(auto)]
 
 mod centres;
@@ -12,3 +13,6 @@ mod rows;
 pub use centres::allowed;
 pub use clearances::clearance;
 pub use plain::plain_clearance;
+
+#[cfg(test)]
+mod tests;

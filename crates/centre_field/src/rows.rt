@@ -7,7 +7,8 @@ ghost use Rattle.centre_field.specs.Rows.{column_at, start_at, square_at, listed
 use crate::gaps::square_gap;
 use cell_grid::{Workbench, cell_at};
 
-// A listed column: the nearest from `start` on, up to where the next listed one starts.
+// A column that has the nearest kept cell from `start` on, up to where the next listed column starts;
+// `square` is the squared distance along the column.
 #[derive(Clone, Copy)]
 struct ListedColumn {
     column: u32,
@@ -25,6 +26,7 @@ fn listed(bench: &Workbench, j: u32) -> ListedColumn
     ensures square { result.square ≡ square_at (bench.now).scratch j }
     ensures wide { (bench.now).frame.width ≤ 32768 }
 {
+    // A side has at most 32,768 cells.
     let _frame = bench.frame();
     ListedColumn {
         column: bench.scratch(3 * j) as u32,
@@ -41,13 +43,15 @@ fn list(bench: &mut Workbench, j: u32, entry: ListedColumn)
     ensures { bench.new
         ≡ record bench.old { scratch = listed_at (bench.old).scratch j entry.column entry.start entry.square } }
 {
+    // A side has at most 32,768 cells.
     let _frame = bench.frame();
     bench.set_scratch(3 * j, entry.column as u64);
     bench.set_scratch(3 * j + 1, entry.start as u64);
     bench.set_scratch(3 * j + 2, entry.square);
 }
 
-// The squared distance from column `x` to a column with this square.
+// The squared distance from column `x` of the row to the nearest kept cell of a column, whose squared
+// distance along the column is `square`.
 #[inline(always)]
 fn value(x: u32, column: u32, square: u64) -> u64
     requires x { x < 32768 }
@@ -59,8 +63,8 @@ fn value(x: u32, column: u32, square: u64) -> u64
     square_gap(x, column) + square
 }
 
-// How many of the first `n` listed columns stay when column `b` enters: those before the last that
-// is no farther than `b` where it starts.
+// How many of the first `n` listed columns stay when column `b` enters: up to the last one that is no
+// farther than `b` where it starts.
 fn staying(bench: &Workbench, n: u32, b: u32, square: u64) -> u32
     requires n { n ≤ (bench.now).frame.width }
     requires b { b < 32768 }
@@ -87,7 +91,7 @@ fn staying(bench: &Workbench, n: u32, b: u32, square: u64) -> u32
     0
 }
 
-// From where on column `b` with its square is nearer than a column before it.
+// From where on the nearest kept cell is that of column `b` and no more that of a column before it.
 #[tactic(auto, unfolding(crate::specs::Rows::start_from))]
 #[inline(always)]
 fn start_after(column: u32, column_square: u64, b: u32, square: u64) -> u64
@@ -165,7 +169,7 @@ fn list_row(bench: &mut Workbench, y: u32) -> u32
     n
 }
 
-// The listed column that is the nearest at `x`, after the one that is so before it.
+// Where in the list the nearest column at `x` stands, after `k`, where that before `x` stands.
 #[inline(always)]
 fn nearest(bench: &Workbench, n: u32, k: u32, x: u32) -> u32
     requires n { n ≤ (bench.now).frame.width }

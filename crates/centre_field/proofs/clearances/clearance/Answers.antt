@@ -1,5 +1,3 @@
-use Rattle.std.proofs.Common.{◌≡◌, sym, ap, subst, arith}
-use Rattle.cell_grid.specs.Place.{IsFrame}
 use Rattle.centre_field.proofs.TwoPassLaws.{distances, two_passes, low_frame}
 use Rattle.centre_field.proofs.clearances.clearance.Goals as goal
 

@@ -1,5 +1,5 @@
 use Rattle.std.proofs.Common.{◌≡◌, ℕ, ◌-◌, ◌+◌, subst, arith}
-use Rattle.centre_field.proofs.ColumnLaws.{IsSweptFrom, row_swept, all_nearest}
+use Rattle.centre_field.proofs.ColumnLaws.{IsSweptFrom, row_swept}
 use Rattle.centre_field.proofs.columns.sweep_down.Goals as goal
 
 pub rows-preserved : goal.rows-preserved

@@ -1,7 +1,4 @@
-use Rattle.std.proofs.Common.{◌≡◌, sym, subst, arith}
-use Rattle.cell_grid.specs.Grid.{Grid}
-use Rattle.centre_field.specs.Rows.{FinishesRow}
-use Rattle.centre_field.proofs.RowLaws.{listing_full, finished_none, finished_some}
+use Rattle.centre_field.proofs.RowLaws.{listing_full}
 use Rattle.centre_field.proofs.rows.finish_row.Goals as goal
 
 pub write_row-requires-clause-listing : goal.write_row-requires-clause-listing

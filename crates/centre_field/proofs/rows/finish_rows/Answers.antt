@@ -1,5 +1,4 @@
-use Rattle.std.proofs.Common.{◌≡◌, arith}
-use Rattle.centre_field.proofs.RowLaws.{row_finished, distances_now, all_finished, same_height}
+use Rattle.centre_field.proofs.RowLaws.{row_finished}
 use Rattle.centre_field.proofs.rows.finish_rows.Goals as goal
 
 pub rows-preserved : goal.rows-preserved

@@ -1,6 +1,5 @@
-use Rattle.std.proofs.Common.{◌≡◌, ◌+◌, sym, ap, subst, ◌∙◌, arith}
-use Rattle.cell_grid.specs.Grid.{Grid}
-use Rattle.centre_field.proofs.RowLaws.{IsListedTo, frame_listed, listing_now, listed_one, listed_none, inside, renamed, read_number, number_before, is_short}
+use Rattle.std.proofs.Common.{◌+◌}
+use Rattle.centre_field.proofs.RowLaws.{frame_listed, listing_now, listed_one, listed_none, inside, renamed, read_number, number_before, is_short}
 use Rattle.centre_field.proofs.rows.list_row.Goals as goal
 use Rattle.centre_field.proofs.rows.list_row.Goals.{then-distance, else-distance}
 

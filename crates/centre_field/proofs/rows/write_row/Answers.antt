@@ -1,6 +1,6 @@
-use Rattle.std.proofs.Common.{◌≡◌, ◌*◌, ◌+◌, ◌∙◌, arith}
-use Rattle.centre_field.proofs.RowLaws.{IsWritingRow, written_value, same_height}
-use Rattle.centre_field.proofs.WrittenLaws.{written_at, row_changed, row_fact}
+use Rattle.std.proofs.Common.{◌≡◌, ◌*◌, ◌+◌, arith}
+use Rattle.centre_field.proofs.RowLaws.{written_value, same_height}
+use Rattle.centre_field.proofs.WrittenLaws.{written_at}
 use Rattle.centre_field.proofs.rows.write_row.Goals as goal
 
 pub places-preserved : goal.places-preserved
