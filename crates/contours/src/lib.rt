@@ -103,7 +103,9 @@ fn trace(bench: &mut Workbench, c: Cell, on: bool) -> u64
     }
 }
 
-/// Makes Pass the contour of the cells above `g`, adds it to Visited, and gives its size.
+/// Makes Pass the contour of the cells whose clearance is above `g`, a squared index distance; adds it
+/// to Visited, and gives its size. The border of the frame has to be above `g`, and may be on the
+/// contour; no cell outside the frame is, for it and all its neighbours are above `g`.
 pub fn contour(bench: &mut Workbench, g: u64) -> u64
     requires border { (c : Cell) → IsOnBorder (bench.old).frame c → is_above_of (bench.old).frame (bench.old).clearances g c ≡ true }
     ensures rest { bench.new ≡ record bench.old { pass = (bench.new).pass; visited = (bench.new).visited } }

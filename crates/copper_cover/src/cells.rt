@@ -183,8 +183,9 @@ fn paint(bench: &mut Workbench, object: &Painted, h: i64)
     }
 }
 
-/// Makes Kept the cells of the frame that the painted objects keep. The objects are painted in their
-/// order, each over the cells round its own rectangle; half the diagonal of a cell is worked out once.
+/// Makes Kept the cells of the frame that the painted objects keep, whatever was kept before. The
+/// centre of each cell of the frame has to lie within 500.1 mm of both axes. The objects are painted in
+/// their order, each over the cells round its own rectangle alone.
 pub fn cover(bench: &mut Workbench, painted: &Vec<Painted>)
     requires pitch { IsPitch (bench.old).frame.pitch }
     requires centres { (c : Cell) → InFrame (bench.old).frame c → IsNearPlace (centre_of (bench.old).frame.pitch c) }

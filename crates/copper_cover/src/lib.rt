@@ -1,6 +1,6 @@
-//! Which cells of the lattice painted objects keep, and the rectangle round what is dark. A cell is
-//! named here by its centre and half its diagonal, so that finer lattices may use the same rule. The
-//! words of specs/Kept are cited by every crate that cuts copper; proofs/KeptLaws is for those crates.
+//! Which cells of the lattice painted objects keep, one or all of a frame, and the rectangle round what is
+//! dark. One cell is named by its centre and half its diagonal, so that finer lattices may use the same
+//! rule. The words of specs/Kept are cited by every crate that cuts copper; proofs/KeptLaws is for those.
 #![tactic(auto)]
 
 ghost use Rattle.std.specs.Prelude.{◌≡◌, ℤ, pos, ◌≤ℤ◌, ◌<ℤ◌, Bool, not, ◌&&◌, ◌||◌, Option};
