@@ -1,2 +1,5 @@
 pub mod Sides
 pub mod Laws
+pub mod Unswept
+pub mod Meetings
+pub mod Grouping

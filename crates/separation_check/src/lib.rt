@@ -3,8 +3,11 @@
 //! specs/Groups), and no file here may repeat them. How groups are found may change, their order not.
 #![tactic(auto)]
 
+mod grouping;
 mod laws;
+mod meetings;
 mod sweeps;
 
+pub use grouping::Group;
 pub use laws::{inner_law, pair_law};
 pub use sweeps::mark_swept;
