@@ -7,3 +7,4 @@ pub mod Tables
 pub mod Collecting
 pub mod Rows
 pub mod Lifting
+pub mod Tears

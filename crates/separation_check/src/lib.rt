@@ -4,10 +4,12 @@
 #![tactic(auto)]
 
 mod grouping;
+mod labels;
 mod laws;
 mod meetings;
 mod sweeps;
 
-pub use grouping::Group;
+pub use grouping::{Group, groups};
+pub use labels::{LabelFault, check_labels, relabel};
 pub use laws::{inner_law, pair_law};
 pub use sweeps::mark_swept;
