@@ -1,9 +1,7 @@
 // The groups of islands that stand in one class.
 ghost use Rattle.std.specs.Prelude.{◌≡◌, ◌<◌, ◌≤◌, ℕ, true, false, not, List, IfOk, length, replicate, slice_index};
 ghost use Rattle.board_base.specs.declared.places.Cell.{Cell};
-ghost use Rattle.cell_grid.specs.Cells.{in_plane};
 ghost use Rattle.cell_grid.specs.Chains.{IsClasses};
-ghost use Rattle.cell_grid.specs.Islands.{AreIslands};
 ghost use Rattle.cell_grid.specs.Groups.{AreGroups};
 ghost use Rattle.separation_check.specs.Unswept.{is_unswept, island_of, class_of};
 ghost use Rattle.separation_check.specs.Meetings.{islands_of, classes_of};
@@ -179,8 +177,7 @@ fn groups_of(alloc: Global, meetings: &[Meeting]) -> Result<Vec<Group>, AllocErr
 /// islands, the numbers of those, in the order of the classes' first kept cells. The labels are the
 /// islands' numbers, and the working labels those of the classes. An error where memory is wanting.
 pub fn groups(alloc: Global, bench: &Workbench) -> Result<Vec<Group>, AllocError>
-    requires labels { (count : ℕ) × AreIslands (in_plane bench.now.frame bench.now.kept) (island_of bench.now) count }
-    requires classes { IsClasses (is_unswept bench.now) (class_of bench.now) }
+    requires { IsClasses (is_unswept bench.now) (class_of bench.now) }
     ensures { IfOk result (λ v. AreGroups (λ c. is_unswept bench.now c ≡ true) (island_of bench.now) v.items) }
 {
     let meetings = meetings_of(alloc, bench)?;

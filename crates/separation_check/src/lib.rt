@@ -13,3 +13,6 @@ pub use grouping::{Group, groups};
 pub use labels::{LabelFault, check_labels, relabel};
 pub use laws::{inner_law, pair_law};
 pub use sweeps::mark_swept;
+
+#[cfg(test)]
+mod tests;

@@ -13,7 +13,7 @@ returns c =
     let met =
     subst (λ (ms : List Meeting). AreMeetings g.frame (is_unswept g) (island_of g) (class_of g) (islands_of ms) (classes_of ms) (cells_of g.frame)) (sym c.as_slice.ensures.value)
     c.in_ok-meetings.ensures in
-    lifted _ _ _ _ _ _ _ met c.requires.classes refl (island_inside g) _ c.in_ok-found.ensures
+    lifted _ _ _ _ _ _ _ met c.requires refl (island_inside g) _ c.in_ok-found.ensures
 
 pub groups_of-requires-clause-some_islands : goal.groups_of-requires-clause-some_islands
 groups_of-requires-clause-some_islands c =
@@ -21,4 +21,4 @@ groups_of-requires-clause-some_islands c =
 
 pub groups_of-requires-clause-some_classes : goal.groups_of-requires-clause-some_classes
 groups_of-requires-clause-some_classes c =
-    subst (λ (ms : List Meeting). AreSome (classes_of ms)) (sym c.as_slice.ensures.value) (some_classes _ _ _ _ _ _ _ c.in_ok-meetings.ensures c.requires.classes)
+    subst (λ (ms : List Meeting). AreSome (classes_of ms)) (sym c.as_slice.ensures.value) (some_classes _ _ _ _ _ _ _ c.in_ok-meetings.ensures c.requires)

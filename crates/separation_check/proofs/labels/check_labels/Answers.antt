@@ -10,7 +10,7 @@ returns-in-Some-clause-never c = λ p. no_fault _ _ _ _ p c.in-Some.ensures.some
 pub cells-preserved : goal.cells-preserved
 cells-preserved c =
     let k = c.cell_at-cell.ensures in
-    agreed_on _ _ _ _ _ c.cells.invariant k.inside k.place (omega arith) ?
+    agreed_on _ _ _ _ _ c.cells.invariant k.inside k.place (omega arith) (c.in_default.ensures.none refl)
 
 pub returns-clause-whole : goal.returns-clause-whole
 returns-clause-whole c =
