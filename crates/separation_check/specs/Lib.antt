@@ -1,2 +1,6 @@
 pub mod Sides
 pub mod Laws
+pub mod Unswept
+pub mod Meetings
+pub mod Grouping
+pub mod Tears

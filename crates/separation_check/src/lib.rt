@@ -3,8 +3,16 @@
 //! specs/Groups), and no file here may repeat them. How groups are found may change, their order not.
 #![tactic(auto)]
 
+mod grouping;
+mod labels;
 mod laws;
+mod meetings;
 mod sweeps;
 
+pub use grouping::{Group, groups};
+pub use labels::{LabelFault, check_labels, relabel};
 pub use laws::{inner_law, pair_law};
 pub use sweeps::mark_swept;
+
+#[cfg(test)]
+mod tests;
