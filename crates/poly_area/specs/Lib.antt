@@ -1,0 +1,5 @@
+pub mod Area
+pub mod AreaLaw
+pub mod Closed
+pub mod Crossing
+pub mod Mirror
