@@ -1,12 +1,11 @@
 -- the other side of the y axis
-use Rattle.std.proofs.Common.{◌≡◌, ℕ, ◌<◌, ◌≤◌, ℤ, pos, neg_ℤ, ◌≤ℤ◌, Bool, true, false, cond, List, [], ◌∷◌, ◌++◌, length, map, refl, sym, ap, ◌∙◌, arith}
+use Rattle.std.proofs.Common.{◌≡◌, ℤ, pos, neg_ℤ, ◌≤ℤ◌, Bool, true, false, cond, List, [], ◌∷◌, ◌++◌, map, refl, sym, ap, ◌∙◌, arith}
 use Rattle.std.proofs.lemmas.List.{length-map}
-use Rattle.std.specs.List.{All}
-use Rattle.std.proofs.lemmas.List.Elements.{All-cons, All-nil, All-from_recursion, recursion_from_All}
+use Rattle.std.proofs.lemmas.List.Elements.{All-from_recursion, recursion_from_All}
 use Rattle.std.specs.List.{AllByRecursion}
 use borrow.Author.Differences.{ints}
 use Rattle.board_base.specs.declared.places.Point.{Point}
-use Rattle.board_base.specs.Places.{IsPlace, IsCoordinate}
+use Rattle.board_base.specs.Places.{IsPlace}
 use Rattle.poly_area.specs.declared.edges.Edge.{Edge}
 use Rattle.poly_area.specs.Area.{edges_along, loop_edges, edges_of}
 use Rattle.poly_area.specs.Mirror.{mirrored, mirrored_loops, mirrored_edge}

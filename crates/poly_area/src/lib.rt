@@ -9,9 +9,9 @@ mod crossing;
 mod edges;
 mod loops;
 mod spans;
-mod toggles;
 #[cfg(test)]
 mod tests;
+mod toggles;
 
 pub use loops::{Poly, PolyError};
 
