@@ -1,7 +1,6 @@
 -- The centres of a row of cells.
-use Rattle.std.proofs.Common.{◌≡◌, ℕ, ℤ, pos, ◌+ℤ◌, ◌*ℤ◌, [], ◌∷◌, refl}
+use Rattle.std.proofs.Common.{◌≡◌, ℕ, ℤ, pos, ◌+ℤ◌, [], ◌∷◌, refl}
 use Rattle.number_laws.proofs.Ring.{var, add, mul, ring}
-use Rattle.board_base.specs.declared.places.Point.{Point}
 use Rattle.board_base.specs.Lattice.{middle, half_of}
 use Rattle.area_rows.specs.Rows.{column_x, CellsLaw}
 

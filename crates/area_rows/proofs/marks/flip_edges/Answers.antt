@@ -1,8 +1,8 @@
-use Rattle.std.proofs.Common.{◌≡◌, ◌∙◌, ◌+◌, ◌<◌, sym, ap, refl, ℤ, ℕ, pos, Bool, length, rules, arith}
+use Rattle.std.proofs.Common.{◌<◌, pos, length, rules}
 use Rattle.std.proofs.lemmas.Int.{to_z-of_z}
 use mir.Val.{SFits}
 use mir.Syntax.{w64}
-use Rattle.poly_area.specs.Area.{edge_at, edges_of, crosses, on_row}
+use Rattle.poly_area.specs.Area.{edges_of, crosses, on_row}
 use Rattle.poly_area.proofs.ToggleLaws.{odd_of_more}
 use Rattle.area_rows.specs.Rows.{column_x}
 use Rattle.area_rows.proofs.Running.{one_more}

@@ -1,5 +1,4 @@
-use Rattle.std.proofs.Common.{◌≡◌, ◌∙◌, ◌<◌, sym, ap, refl, ℕ, Bool, not, get_or, length, false, rules, arith}
-use Rattle.poly_area.specs.Crossing.{xor}
+use Rattle.std.proofs.Common.{◌≡◌, ◌∙◌, ◌<◌, get_or, length, false, rules}
 use Rattle.poly_area.proofs.ToggleLaws.{turned, kept}
 use Rattle.area_rows.proofs.Running.{run_step}
 use Rattle.area_rows.proofs.marks.run_parity.Goals.{then-marks-k, else-marks-k}
