@@ -1,5 +1,6 @@
 pub mod AreaLaws
 pub mod Columns
+pub mod Literals
 pub mod Meets
 pub mod Mirrors
 pub mod OneLoop

@@ -2,4 +2,5 @@ pub mod Area
 pub mod AreaLaw
 pub mod Closed
 pub mod Crossing
+pub mod Literal
 pub mod Mirror

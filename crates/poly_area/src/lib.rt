@@ -4,6 +4,7 @@
 #![tactic(auto)]
 
 ghost use Rattle.poly_area.specs.AreaLaw.{AreaLaw, CellLaw};
+ghost use Rattle.poly_area.specs.Literal.{Literal};
 
 mod crossing;
 mod edges;
@@ -20,4 +21,9 @@ pub use loops::{Poly, PolyError};
 pub fn area_law()
     ensures squares { AreaLaw }
     ensures cells { CellLaw }
+{}
+
+/// The definitions in the words that they stand for.
+pub fn literal_law()
+    ensures { Literal }
 {}
