@@ -1,0 +1,10 @@
+pub mod AreaLaws
+pub mod Columns
+pub mod Literals
+pub mod Meets
+pub mod Mirrors
+pub mod OneLoop
+pub mod PlaceLaws
+pub mod Rows
+pub mod ToggleLaws
+pub mod Wholes
