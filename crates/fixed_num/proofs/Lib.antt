@@ -4,3 +4,4 @@ pub mod UsedLaws
 pub mod ValueLaws
 pub mod RoundingLaws
 pub mod TurnLaws
+pub mod SizeLaws

@@ -6,3 +6,4 @@ pub mod Values
 pub mod Rounding
 pub mod Angles
 pub mod Turns
+pub mod Sizes

@@ -3,6 +3,7 @@
 //! Readers and writers of every format stand on it, so a format's own rules don't belong here.
 #![tactic(auto)]
 
+ghost use Rattle.fixed_num.specs.Sizes.{SizeLaw};
 ghost use Rattle.fixed_num.specs.Spelled.{DecimalLaw};
 ghost use Rattle.fixed_num.specs.Turns.{TurnLaw};
 ghost use Rattle.fixed_num.specs.Values.{UsedLaw};
@@ -27,6 +28,11 @@ pub fn decimal_law()
 /// No digit past a scale but zeros stands behind the point where no more digits than that are used.
 pub fn used_law()
     ensures { UsedLaw }
+{}
+
+/// The numbers that `cut_decimal` gives are below 10^30 in size.
+pub fn size_law()
+    ensures { SizeLaw }
 {}
 
 /// Sine and cosine are exact at multiples of 90 degrees, and a quarter more turns them round.
