@@ -17,10 +17,6 @@ abbrev pub before : List Piece → Option (List Piece) → Option (List Piece)
 before xs (Some ys) = Some (xs ++ ys)
 before xs None = None
 
-pub begun : (o : Option (List Piece)) → before [] o ≡ o
-begun (Some ys) = refl
-begun None = refl
-
 append_one : (xs ys : List Piece) (x : Piece) → xs ++ x ∷ ys ≡ (xs ++ x ∷ []) ++ ys
 append_one [] ys x = refl
 append_one (y ∷ xs) ys x = ap (λ l. y ∷ l) (append_one xs ys x)
@@ -38,10 +34,6 @@ pub went_on : (move : Point → Option Point) (xs ps : List Piece) (p : Piece) (
 went_on move xs ps p part all e h =
     sym (one_more xs (piece part p) (moved move ps)) ∙ ap (λ o. before xs (o >>= (λ part. moved move ps >>= (λ others. Some (piece part p ∷ others))))) (sym e) ∙ h
 
--- a piece leaves the range
-pub left_range : (move : Point → Option Point) (xs ps : List Piece) (p : Piece) (all : Option (List Piece)) → moved_part move p.part ≡ None → before xs (moved move (p ∷ ps)) ≡ all → all ≡ None
-left_range move xs ps p all e h = sym h ∙ ap (λ o. before xs (o >>= (λ part. moved move ps >>= (λ others. Some (piece part p ∷ others))))) e
-
 -- one piece more of a list
 pub step : (move : Point → Option Point) (xs new items : List Piece) (i : ℕ) (d : Piece) (part : Part) (all : Option (List Piece)) → i < length items → moved_part move (get_or items i d).part ≡ Some part
     → new ≡ xs ++ piece part (get_or items i d) ∷ [] → before xs (moved move (drop i items)) ≡ all → before new (moved move (drop (i + 1) items)) ≡ all
@@ -50,11 +42,6 @@ step move xs new items i d part all less e more h =
     subst (λ k. before new (moved move (drop k items)) ≡ all) next
     (ap (λ l. before l (moved move (drop (suc i) items))) more
     ∙ went_on move xs (drop (suc i) items) (get_or items i d) part all e (ap (λ l. before xs (moved move l)) (sym (drop-cons items i d less)) ∙ h))
-
--- a piece of a list leaves the range
-pub step_out : (move : Point → Option Point) (xs items : List Piece) (i : ℕ) (d : Piece) (all : Option (List Piece)) → i < length items → moved_part move (get_or items i d).part ≡ None
-    → before xs (moved move (drop i items)) ≡ all → all ≡ None
-step_out move xs items i d all less e h = left_range move xs (drop (suc i) items) (get_or items i d) all e (ap (λ l. before xs (moved move l)) (sym (drop-cons items i d less)) ∙ h)
 
 -- a place is near enough for a shape
 is_near : (v : ℤ) → IsCoordinate v → IsNearCoordinate v
