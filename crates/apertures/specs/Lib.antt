@@ -2,3 +2,4 @@ pub mod Texts
 pub mod Figures
 pub mod Defined
 pub mod Placed
+pub mod Spelled
