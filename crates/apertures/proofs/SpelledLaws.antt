@@ -1,5 +1,5 @@
 -- How texts are cut into a name and sizes.
-use Rattle.std.proofs.Common.{◌≡◌, refl, ℕ, zero, suc, ◌+◌, ◌<◌, ◌≤◌, List, [], ◌∷◌, ◌++◌, false, true, Err, length, take, drop, get_or, arith, ap, sym, ◌∙◌, subst}
+use Rattle.std.proofs.Common.{◌≡◌, refl, ℕ, suc, ◌+◌, ◌<◌, List, [], ◌∷◌, ◌++◌, Err, length, take, drop, arith, ap, ◌∙◌}
 use Rattle.std.specs.List.{All, position_or_len, before_first, after_first, slice_split, join_with_byte}
 use Rattle.std.proofs.lemmas.Grind.{common_steps}
 use Rattle.std.proofs.lemmas.List.Splits.{slice_split_at, slice_split_none}
