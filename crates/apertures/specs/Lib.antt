@@ -1,0 +1,5 @@
+pub mod Texts
+pub mod Figures
+pub mod Defined
+pub mod Placed
+pub mod Spelled
