@@ -13,7 +13,7 @@ use Rattle.board_base.specs.Near.{near_of}
 use Rattle.board_base.specs.Places.{IsPlace, IsNearPlace}
 use Rattle.board_base.specs.Contour.{IsAllowed, IsContour}
 use Rattle.cell_grid.specs.declared.frames.Frame.{Frame}
-use Rattle.cell_grid.specs.Grid.{Grid}
+use Rattle.cell_grid.specs.Grid.{Grid, IsSized}
 use Rattle.cell_grid.specs.Place.{InFrame, place_of, cells_of}
 use Rattle.cell_grid.specs.Cells.{in_frame, in_plane, number_in, is_above, IsOnBorder}
 use Rattle.cell_grid.specs.Islands.{AreIslands}
@@ -33,7 +33,7 @@ use Rattle.mill_plan.specs.Frame.{IsFrameOf, sweep_of, width_swept}
 use Rattle.mill_plan.specs.Isolated.{AreJoinedGroups, ListsJoined}
 use Rattle.mill_plan.specs.Listed.{cells_in}
 use Rattle.mill_plan.specs.Raster.{IsFarAtEdge, is_marked, PartsSwept, IsRasterOf}
-use Rattle.mill_plan.proofs.FrameLaws.{kept_roomy, far_at_edge}
+use Rattle.mill_plan.proofs.FrameLaws.{kept_roomy, far_at_edge, frame_pitch, frame_places}
 use Rattle.mill_plan.proofs.ListedLaws.{list_of, count_of_list}
 use Rattle.mill_plan.proofs.SweptLaws.{near_within, within_near, groups_free, groups_allowed, joined_allowed}
 
@@ -257,3 +257,99 @@ one_swept start g h width centres k v s small is rest marks = record {
         last true = refl
         last false = refl
     any_more test (y ∷ xs) x = ap (λ b. test y || b) (any_more test xs x) ∙ sym (joined (test y) (list_any test xs) (test x))
+
+-- ---- the stages of a grid
+
+-- The grid b0 over the frame has the kept cells and no swept ones; b1 has the labels too, b2 the contour, b3 what is swept.
+pub record AreStages (job : Job) (painted : List Painted) (g n : ℕ) (b0 b1 b2 : Grid) : Type 0 where
+  pub framed : IsFrameOf job painted (Ok b0.frame)
+  pub kept : (c : Cell) → in_plane b0.frame b0.kept c ≡ keeps job painted c
+  pub unswept : (c : Cell) → in_plane b0.frame b0.swept c ≡ false
+  pub numbered : b1 ≡ record b0 { labels = b1.labels; works = b1.works; waiting = b1.waiting; put = b1.put }
+  pub islands : AreIslands (in_plane b0.frame b0.kept) (number_in b0.frame 0 b1.labels) n
+  pub traced : b2 ≡ record b1 { clearances = b2.clearances; scratch = b2.scratch; pass = b2.pass; visited = b2.visited }
+
+-- what the stages leave alone
+record IsFixed (b0 b1 b2 : Grid) : Type 0 where
+  pub frame1 : b1.frame ≡ b0.frame
+  pub kept1 : b1.kept ≡ b0.kept
+  pub frame2 : b2.frame ≡ b0.frame
+  pub kept2 : b2.kept ≡ b0.kept
+  pub swept2 : b2.swept ≡ b0.swept
+  pub labels2 : b2.labels ≡ b1.labels
+
+fixed : (job : Job) (painted : List Painted) (g n : ℕ) (b0 b1 b2 : Grid) → AreStages job painted g n b0 b1 b2 → IsFixed b0 b1 b2
+fixed job painted g n b0 b1 b2 s = record {
+  frame1 = ap (λ (b : Grid). b.frame) s.numbered;
+  kept1 = ap (λ (b : Grid). b.kept) s.numbered;
+  frame2 = ap (λ (b : Grid). b.frame) s.traced ∙ ap (λ (b : Grid). b.frame) s.numbered;
+  kept2 = ap (λ (b : Grid). b.kept) s.traced ∙ ap (λ (b : Grid). b.kept) s.numbered;
+  swept2 = ap (λ (b : Grid). b.swept) s.traced ∙ ap (λ (b : Grid). b.swept) s.numbered;
+  labels2 = ap (λ (b : Grid). b.labels) s.traced;
+}
+
+pub stage_far : (job : Job) (painted : List Painted) (g n : ℕ) (b0 b1 : Grid) → pos g ≡ guard job → KeptLaw → IsFrameOf job painted (Ok b0.frame) → ((c : Cell) → in_plane b0.frame b0.kept c ≡ keeps job painted c)
+    → b1.frame ≡ b0.frame → b1.kept ≡ b0.kept → IsFarAtEdge (pos g) (in_plane b1.frame b1.kept) b1.frame
+stage_far job painted g n b0 b1 g_is law framed kept frame1 kept1 =
+    let far = edge_far job painted b0.frame framed (half_low job.pitch) law in
+    let by_test = subst (λ (t : Cell → Bool). IsFarAtEdge (guard job) t b0.frame) (sym (same_test (in_plane b0.frame b0.kept) (keeps job painted) kept)) far in
+    let by_guard = subst (λ v. IsFarAtEdge v (in_plane b0.frame b0.kept) b0.frame) (sym g_is) by_test in
+    let by_kept = subst (λ xs. IsFarAtEdge (pos g) (in_plane b0.frame xs) b0.frame) (sym kept1) by_guard in
+    subst (λ (f : Frame). IsFarAtEdge (pos g) (in_plane f b1.kept) f) (sym frame1) by_kept
+
+module _ (job : Job) (painted : List Painted) (ok : IsJob job) (g n : ℕ) (b0 b1 b2 : Grid) (s : AreStages job painted g n b0 b1 b2) where
+  pub stage_pitch : b2.frame.pitch ≡ job.pitch
+  stage_pitch = ap (λ (f : Frame). f.pitch) (fixed job painted g n b0 b1 b2 s).frame2 ∙ frame_pitch job painted b0.frame s.framed
+
+  pub stage_places : (c : Cell) → InFrame b2.frame c → IsPlace (centre_of b2.frame.pitch c)
+  stage_places c inside =
+      subst (λ p. IsPlace (centre_of p c)) (sym stage_pitch) (frame_places job painted b0.frame ok s.framed c (subst (λ (f : Frame). InFrame f c) (fixed job painted g n b0 b1 b2 s).frame2 inside))
+
+  pub stage_centres : (centres : List Cell) → IsSized b2 → centres ≡ cells_in b2.frame b2.pass → All (λ c. IsPlace (centre_of b2.frame.pitch c)) centres
+  stage_centres centres sized e = subst (All (λ c. IsPlace (centre_of b2.frame.pitch c))) (sym e) (listed_inside b2.frame b2.pass (λ c. IsPlace (centre_of b2.frame.pitch c)) sized.pass stage_places)
+
+  pub stage_labels : (b3 : Grid) → b3 ≡ record b2 { swept = b3.swept } → AreIslands (in_plane b3.frame b3.kept) (number_in b3.frame 0 b3.labels) n
+  stage_labels b3 rest =
+      let k = fixed job painted g n b0 b1 b2 s in
+      let frame : b3.frame ≡ b0.frame = ap (λ (b : Grid). b.frame) rest ∙ k.frame2 in
+      let kept : b3.kept ≡ b0.kept = ap (λ (b : Grid). b.kept) rest ∙ k.kept2 in
+      let labels : b3.labels ≡ b1.labels = ap (λ (b : Grid). b.labels) rest ∙ k.labels2 in
+      subst (λ (f : Frame). AreIslands (in_plane f b3.kept) (number_in f 0 b3.labels) n) (sym frame)
+      (subst (λ xs. AreIslands (in_plane b0.frame xs) (number_in b0.frame 0 b3.labels) n) (sym kept)
+      (subst (λ xs. AreIslands (in_plane b0.frame b0.kept) (number_in b0.frame 0 xs) n) (sym labels) s.islands))
+
+  pub stages_raster : (b3 : Grid) (width : ℕ) (raster : Raster) → pos g ≡ guard job → pos width ≡ width_swept job → KeptLaw → Barrier → GroupsPast → IsSized b2
+      → ((c : Cell) → in_plane b1.frame b2.pass c ≡ true ↔ IsContour (in_plane b1.frame b1.kept) (pos g) c)
+      → ((c : Cell) → is_above b1.frame b2.clearances g c ≡ true ↔ IsAllowed (in_plane b1.frame b1.kept) (pos g) c)
+      → raster.frame ≡ b2.frame → raster.centres.items ≡ cells_in b2.frame b2.pass → b3 ≡ record b2 { swept = b3.swept }
+      → ((c : Cell) → InFrame b2.frame c → in_plane b2.frame b3.swept c ≡ (in_plane b2.frame b2.swept c || is_marked b2.frame.pitch (pos width) raster.centres.items c))
+      → raster.kept ≡ length (cells_in b3.frame b3.kept) → raster.islands ≡ n → n ≤ 65535
+      → AreGroups (λ c. not (in_plane b3.frame b3.swept c) ≡ true) (number_in b3.frame 0 b3.labels) raster.groups.items → IsRasterOf job painted raster
+  stages_raster b3 width raster g_is width_is kept_law barrier groups_law sized contour allowed frame centres rest marks count islands few groups =
+      let k = fixed job painted g n b0 b1 b2 s in
+      let f : Frame = b2.frame in
+      let back : f ≡ b0.frame = k.frame2 in
+      let first : b1.frame ≡ f = k.frame1 ∙ sym back in
+      let framed = subst (λ (h : Frame). IsFrameOf job painted (Ok h)) (sym back) s.framed in
+      let far = edge_far job painted f framed (half_low job.pitch) kept_law in
+      let kept_is : in_plane f b2.kept ≡ keeps job painted = same_test (in_plane f b2.kept) (keeps job painted)
+          (subst (λ xs. (c : Cell) → in_plane f xs c ≡ keeps job painted c) (sym k.kept2) (subst (λ (h : Frame). (c : Cell) → in_plane h b0.kept c ≡ keeps job painted c) (sym back) s.kept)) in
+      let kept_same : b1.kept ≡ b2.kept = k.kept1 ∙ sym k.kept2 in
+      let contour_is = subst (λ xs. (c : Cell) → in_plane f b2.pass c ≡ true ↔ IsContour (in_plane f xs) (pos g) c) kept_same
+          (subst (λ (h : Frame). (c : Cell) → in_plane h b2.pass c ≡ true ↔ IsContour (in_plane h b1.kept) (pos g) c) first contour) in
+      let above_is = subst (λ xs. (c : Cell) → is_above f b2.clearances g c ≡ true ↔ IsAllowed (in_plane f xs) (pos g) c) kept_same
+          (subst (λ (h : Frame). (c : Cell) → is_above h b2.clearances g c ≡ true ↔ IsAllowed (in_plane h b1.kept) (pos g) c) first allowed) in
+      let unswept = subst (λ xs. (c : Cell) → in_plane f xs c ≡ false) (sym k.swept2) (subst (λ (h : Frame). (c : Cell) → in_plane h b0.swept c ≡ false) (sym back) s.unswept) in
+      let marks_is : (c : Cell) → InFrame f c → in_plane f b3.swept c ≡ is_marked f.pitch (width_swept job) (cells_in f b2.pass) c =
+          λ c inside. marks c inside ∙ ap (λ b. b || is_marked f.pitch (pos width) raster.centres.items c) (unswept c)
+          ∙ ap (λ v. is_marked f.pitch v raster.centres.items c) width_is ∙ ap (λ cs. is_marked f.pitch (width_swept job) cs c) centres in
+      let frame3 : b3.frame ≡ f = ap (λ (b : Grid). b.frame) rest in
+      let kept3 : b3.kept ≡ b2.kept = ap (λ (b : Grid). b.kept) rest in
+      let groups_at = subst (λ (h : Frame). AreGroups (λ c. not (in_plane h b3.swept c) ≡ true) (number_in h 0 b3.labels) raster.groups.items) frame3 groups in
+      let labels = subst (λ (h : Frame). AreIslands (in_plane h b3.kept) (number_in h 0 b3.labels) n) frame3 (stage_labels b3 rest) in
+      let numbers = subst (λ xs. AreIslands (in_plane f xs) (number_in f 0 b3.labels) n) kept3 labels in
+      raster_is job painted f ok g g_is framed stage_pitch far b2.kept b2.pass b3.swept b3.labels b2.clearances kept_is contour_is above_is sized.pass marks_is raster (number_in f 0 b3.labels) barrier groups_law frame sized.kept
+      (count ∙ ap (λ (h : Frame). length (cells_in h b3.kept)) frame3 ∙ ap (λ xs. length (cells_in f xs)) kept3)
+      (subst (AreIslands (in_plane f b2.kept) (number_in f 0 b3.labels)) (sym islands) numbers) (subst (λ m. m ≤ 65535) (sym islands) few) centres
+      (listed_inside f b2.pass (λ c. IsPlace (centre_of job.pitch c)) sized.pass (λ c inside. subst (λ p. IsPlace (centre_of p c)) stage_pitch (stage_places c inside)))
+      groups_at

@@ -28,8 +28,7 @@ use centre_field::clearance;
 use contours::contour;
 use copper_cover::kept_law;
 use islands::label;
-use separation_check::mark_swept;
-type Group = board_base::Items<u16>;
+use separation_check::{Group, groups, mark_swept, relabel};
 use separation_laws::{barrier_law, groups_law};
 use shape_parts::Painted;
 use std::alloc::{AllocError, Global};
@@ -163,8 +162,9 @@ fn grouped(alloc: Global, bench: &mut Workbench) -> Result<Vec<Group>, AllocErro
     requires labels { (count : ℕ) × AreIslands (in_plane (bench.old).frame (bench.old).kept) (number_in (bench.old).frame 0 (bench.old).labels) count }
     ensures { IfOk result (λ v. AreGroups (λ c. not (in_plane (bench.old).frame (bench.old).swept c) ≡ true) (number_in (bench.old).frame 0 (bench.old).labels) v.items) }
 {
-    bench.queue_clear();
-    Err(AllocError)
+    relabel(bench);
+    let found = groups(alloc, bench)?;
+    Ok(found)
 }
 
 /// What the grid of the image tells.
@@ -179,14 +179,18 @@ pub(crate) fn make_raster(alloc: Global, painted: &Vec<Painted>, job: &Job) -> R
     let h = half_diagonal(job.pitch);
     let guard = guard(job, h);
     let mut bench = covered(alloc, painted, job, guard)?;
-    let islands = numbered(&mut bench)?;
+    let islands = match numbered(&mut bench) {
+        Ok(islands) => islands,
+        Err(error) => return Err(error),
+    };
     traced(&mut bench, guard);
+    let frame = bench.frame();
     let centres = cells(alloc, &bench, Plane::Pass)?;
     sweep(&mut bench, &centres, width(job, h));
     let kept = count(&bench, Plane::Kept);
     let groups = grouped(alloc, &mut bench)?;
     Ok(Raster {
-        frame: bench.frame(),
+        frame,
         kept,
         islands,
         centres,
