@@ -1,5 +1,5 @@
 -- Done, in plain steps.
-use Rattle.std.proofs.Common.{◌≡◌, ◌≢◌, ◌⊎◌, refl, ℕ, ◌<◌, ◌≤◌, List, [], ◌∷◌, ◌++◌, length, Option, Some, None, Result, Ok, Err, Bool, true, false, cond, inl, inr, ap, sym, ◌∙◌, subst, arith, rules, codes}
+use Rattle.std.proofs.Common.{◌≡◌, refl, ℕ, List, length, Option, Some, None, Result, Ok, Err, Bool, true, false, cond, inl, inr, ap, sym, ◌∙◌, subst, codes}
 use Rattle.std.specs.Prelude.{nat_lt}
 use Rattle.std.specs.FinMap.{get, insert}
 use Rattle.board_base.specs.declared.places.Role.{Role}
@@ -21,7 +21,7 @@ use Rattle.mill_plan.specs.Mills.{Mills}
 use Rattle.mill_plan.specs.Isolated.{IsIsolationOf, PartsOthers}
 use Rattle.mill_program.specs.Lines.{lines_of}
 use Rattle.mill_top.specs.declared.status.Status.{Status}
-use Rattle.mill_top.specs.declared.status.Status.TheVariants.{Done, Usage, Gerber, TooLong, Limit, ReadFault, WriteFault, Memory}
+use Rattle.mill_top.specs.declared.status.Status.TheVariants.{Done, TooLong}
 use Rattle.mill_top.specs.Words.{Spec, spec_of}
 use Rattle.mill_top.specs.Limits.{most_bytes}
 use Rattle.mill_top.specs.Answers.{usage, accepted_bytes, input, IfTold}

@@ -1,13 +1,12 @@
 -- What a step answers in the place of what is expected.
-use Rattle.std.specs.Prelude.{◌≡◌, ◌⊎◌, ℕ, ◌+◌, ◌<◌, List, [], ◌∷◌, ◌++◌, length, Option, Some, None, IsNone, Result, Ok, Err, codes, if◌then◌else◌, nat_lt}
+use Rattle.std.specs.Prelude.{◌≡◌, ◌⊎◌, ℕ, ◌+◌, List, length, Option, Some, None, IsNone, Result, Ok, Err, if◌then◌else◌, nat_lt}
 use Rattle.std.specs.FinMap.{get}
 use Rattle.board_base.specs.declared.places.Role.{Role}
-use Rattle.board_base.specs.declared.places.Role.TheVariants as roles
 use Rattle.board_base.specs.Counts.{Rose, RoseBy}
 use Rattle.board_base.specs.Files.{Files}
 use Rattle.board_base.specs.Shelf.{ShelfState}
 use Rattle.mill_top.specs.declared.status.Status.{Status}
-use Rattle.mill_top.specs.declared.status.Status.TheVariants.{Done, Usage, Gerber, TooLong, Limit, ReadFault, WriteFault, Memory}
+use Rattle.mill_top.specs.declared.status.Status.TheVariants.{Done, Usage, TooLong, Limit, ReadFault, WriteFault, Memory}
 use Rattle.mill_top.specs.Limits.{most_bytes}
 
 -- a wrong word is a Usage

@@ -1,5 +1,5 @@
 -- What Done means, in plain steps.
-use Rattle.std.specs.Prelude.{◌≡◌, ◌↔◌, ℕ, ℤ, pos, ◌*ℤ◌, true, List, Option, Some, Ok, codes}
+use Rattle.std.specs.Prelude.{◌≡◌, ◌↔◌, ℕ, pos, ◌*ℤ◌, true, List, Option, Some, Ok, codes}
 use Rattle.std.specs.FinMap.{get, insert}
 use Rattle.board_base.specs.Files.{Files}
 use Rattle.board_base.specs.declared.places.Cell.{Cell}

@@ -1,19 +1,19 @@
 -- What a run of the top call leaves.
-use Rattle.std.specs.Prelude.{◌≡◌, ◌≢◌, ◌⊎◌, ◌+◌, ◌≤◌, ℕ, List, ◌++◌, Option, Some, None, IsNone, Result, Ok, Err, take}
+use Rattle.std.specs.Prelude.{◌≡◌, ◌≢◌, ◌⊎◌, ℕ, List, ◌++◌, Option, Result, Ok, Err, take}
 use Rattle.board_base.specs.declared.places.Role.{Role}
 use Rattle.board_base.specs.declared.places.Role.TheVariants as roles
-use Rattle.board_base.specs.Counts.{Rose, RoseBy}
+use Rattle.board_base.specs.Counts.{Rose}
 use Rattle.board_base.specs.Files.{Files}
 use Rattle.board_base.specs.Shelf.{ShelfState}
 use Rattle.board_base.specs.Sink.{SinkState, appended, AppendsPrefix}
 use Rattle.mill_top.specs.declared.status.Status.{Status}
-use Rattle.mill_top.specs.declared.status.Status.TheVariants.{Done, Usage, Gerber, TooLong, Limit, ReadFault, WriteFault, Memory}
+use Rattle.mill_top.specs.declared.status.Status.TheVariants.{Done, Usage, Limit, WriteFault, Memory}
 use Rattle.mill_top.specs.Words.{spec_of}
 use Rattle.mill_top.specs.Accepted.{Accepts, accepted, AcceptedAnd, PassesOnly}
 use Rattle.mill_top.specs.Fits.{Fits}
 use Rattle.mill_top.specs.Lines.{line_of}
 use Rattle.mill_top.specs.Outputs.{Output, all_stored, IsStopped}
-use Rattle.mill_top.specs.Answers.{IfTold, ToldAnd, Refuses}
+use Rattle.mill_top.specs.Answers.{IfTold, Refuses}
 
 -- the steps accepted the words and the files, these outputs fit what they accepted, and P holds of them
 abbrev pub Accepted : List (List ℕ) → Option Files → (List Output → Type 0) → Type 0

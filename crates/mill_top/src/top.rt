@@ -52,10 +52,11 @@ pub fn run<S: Shelf, K: Sink>(
     shelf: &mut S,
     out: &mut K,
 ) -> Status
-    // Whatever the words and files are, `run` ends, and its status says what the shelf and the sink hold
-    // then, and why. After Done the program that stands under front.ngc never bites the copper, visits the
-    // whole contour round it and nothing else, and parts all islands but those that report.txt lists as
-    // joined; and the report lists exactly those that milling every allowed centre would leave joined.
+    // Whatever the words and the files are, `run` ends, and its status says what the shelf and the sink
+    // hold then, and why. After Done the turning cutter of the program front.ngc never comes nearer to the
+    // copper than its radius less the tolerance, and it visits the whole contour and nothing else; islands
+    // that stay joined by cells that it doesn't sweep wholly stand in one line of report.txt; and the
+    // report lists exactly the islands that milling every allowed centre leaves joined.
 
     // Safe and total: what the shelf holds and what the sink got, after each status.
     ensures leaves { Leaves (texts words.now) result (S.state shelf.old) (S.state shelf.new) }

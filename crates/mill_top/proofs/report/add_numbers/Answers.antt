@@ -1,5 +1,4 @@
-use Rattle.std.proofs.Common.{◌≡◌, ◌++◌, ◌∷◌, [], ◌∙◌, ap, sym, rules, Some, slice_get, codes, decimal, take, ◌+◌}
-use Rattle.mill_top.specs.Report.{numbers_text}
+use Rattle.std.proofs.Common.{◌≡◌, ◌++◌, ◌∷◌, [], rules, Some, slice_get, decimal}
 use Rattle.mill_top.proofs.ReportLaws.{one_more_number}
 use Rattle.mill_top.proofs.report.add_numbers.Goals as goal
 
