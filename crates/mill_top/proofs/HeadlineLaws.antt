@@ -1,5 +1,5 @@
 -- Done, in plain steps.
-use Rattle.std.proofs.Common.{◌≡◌, ◌≢◌, ◌⊎◌, refl, ℕ, ◌<◌, ◌≤◌, List, [], ◌∷◌, ◌++◌, length, Option, Some, None, Result, Ok, Err, Bool, true, false, cond, inl, inr, ap, sym, ◌∙◌, subst, arith, rules, codes}
+use Rattle.std.proofs.Common.{◌≡◌, refl, ℕ, List, length, Option, Some, None, Result, Ok, Err, Bool, true, false, cond, inl, inr, ap, sym, ◌∙◌, subst, codes}
 use Rattle.std.specs.Prelude.{nat_lt}
 use Rattle.std.specs.FinMap.{get, insert}
 use Rattle.board_base.specs.declared.places.Role.{Role}
@@ -10,20 +10,35 @@ use Rattle.board_base.specs.Shelf.{ShelfState}
 use Rattle.board_base.specs.Sink.{SinkState}
 use Rattle.board_base.specs.Steps.{◌>>=◌}
 use Rattle.shape_parts.specs.declared.shape.Painted.{Painted}
+use Rattle.rs274_sim.specs.declared.line.Line.{Line}
 use Rattle.rs274_sim.specs.Runs.{Runs, RunsTo}
+use Rattle.rs274_sim.specs.Spelling.{text_of}
+use Rattle.rs274_sim.specs.Text.{StandsFor}
 use Rattle.flash_file.specs.Flashes.{image_of}
 use Rattle.mill_plan.specs.declared.job.Job.{Job}
+use Rattle.mill_plan.specs.declared.isolation.Isolation.{Isolation}
 use Rattle.mill_plan.specs.Mills.{Mills}
+use Rattle.mill_plan.specs.Isolated.{IsIsolationOf, PartsOthers}
+use Rattle.mill_program.specs.Lines.{lines_of}
 use Rattle.mill_top.specs.declared.status.Status.{Status}
-use Rattle.mill_top.specs.declared.status.Status.TheVariants.{Done, Usage, Gerber, TooLong, ReadFault, WriteFault, Memory}
+use Rattle.mill_top.specs.declared.status.Status.TheVariants.{Done, TooLong}
 use Rattle.mill_top.specs.Words.{Spec, spec_of}
 use Rattle.mill_top.specs.Limits.{most_bytes}
 use Rattle.mill_top.specs.Answers.{usage, accepted_bytes, input, IfTold}
 use Rattle.mill_top.specs.Accepted.{Accepts, accepted, image, of_this_form}
 use Rattle.mill_top.specs.Outputs.{Output, all_stored}
-use Rattle.mill_top.specs.Fits.{Fits, IsIsolation, IsTextOf, front_part}
+use Rattle.mill_top.specs.Report.{side_of, report_text}
+use Rattle.mill_top.specs.Fits.{Fits, files_of}
 use Rattle.mill_top.specs.Run.{Accepted, Leaves, Becomes}
-use Rattle.mill_top.specs.Headline.{Wrote, NeverBites, PassesContour}
+use Rattle.mill_top.specs.Headline.{Milled, Wrote, IsTextOf, NeverBites, PassesContour, Separates}
+
+-- the bytes are those of a plan that isolates the image
+pub record IsPlanned (m : Milled) : Type 0 where
+  pub plan : Isolation
+  pub isolates : IsIsolationOf m.job m.painted plan
+  pub stands : StandsFor (text_of (lines_of plan.program)) (lines_of plan.program)
+  pub program : m.program ≡ text_of (lines_of plan.program)
+  pub report : m.report ≡ report_text (codes "front") (side_of plan)
 
 -- a step that accepted
 pub step : {A B : Type 0} (r : Result A Status) (f : A → Result B Status) (y : B) → (r >>= f) ≡ Ok y → (x : A) × (r ≡ Ok x) × (f x ≡ Ok y)
@@ -64,9 +79,24 @@ steps words files x e =
     let same = ap (of_ok x) third.2 in
     (first.0, words_accepted _ _ first.1, second.0, bytes_accepted roles.Front _ _ second.1, image_accepted roles.Front _ _ third.1 ∙ ap (λ a. Some a.painted) same, sym (ap (λ a. a.job) same))
 
+planned : (job spec_job : Job) (painted : List Painted) (plan : Isolation) → job ≡ spec_job → IsIsolationOf job painted plan → StandsFor (text_of (lines_of plan.program)) (lines_of plan.program)
+    → IsPlanned (record { job = spec_job; painted = painted; program = text_of (lines_of plan.program); report = report_text (codes "front") (side_of plan) })
+planned job spec_job painted plan same isolates stands = record {
+  plan = plan;
+  isolates = subst (λ j. IsIsolationOf j painted plan) same isolates;
+  stands = stands;
+  program = refl;
+  report = refl;
+}
+
+both_stored : (plan : Isolation) (files : Files)
+    → all_stored (files_of plan) (Some files) ≡ Some (insert (insert files (codes "front.ngc") (text_of (lines_of plan.program))) (codes "report.txt") (report_text (codes "front") (side_of plan)))
+unfolding files_of
+both_stored plan files = refl
+
 wrote : (words : List (List ℕ)) (files : Files) (now : Option Files) (x : Accepts) (outputs : List Output) → StepsOf words files x → Fits x outputs
-    → now ≡ all_stored outputs (Some files) → Wrote IsIsolation words files now
-unfolding Fits front_part
+    → now ≡ all_stored outputs (Some files) → Wrote IsPlanned words files now
+unfolding Fits
 wrote words files now x outputs s fits stored = record {
   spec = s.0;
   given = s.1;
@@ -74,12 +104,13 @@ wrote words files now x outputs s fits stored = record {
   front_held = s.3;
   painted = x.painted;
   paints = s.4;
-  program = fits.0;
-  stored = stored ∙ ap (λ o. all_stored o (Some files)) fits.1;
-  holds = subst (λ job. IsIsolation job x.painted fits.0) s.5 fits.2;
+  program = text_of (lines_of fits.plan.program);
+  report = report_text (codes "front") (side_of fits.plan);
+  stored = stored ∙ ap (λ o. all_stored o (Some files)) fits.files ∙ both_stored fits.plan files;
+  holds = planned x.job (s.0).job x.painted fits.plan s.5 fits.isolates fits.stands;
 }
 
-done_told : (words : List (List ℕ)) (before now : Option Files) → Accepted words before (λ outputs. now ≡ all_stored outputs before) → IfTold before (λ files. Wrote IsIsolation words files now)
+done_told : (words : List (List ℕ)) (before now : Option Files) → Accepted words before (λ outputs. now ≡ all_stored outputs before) → IfTold before (λ files. Wrote IsPlanned words files now)
 done_told words None now a = tt
 done_told words (Some files) now a = wrote words files now a.0 a.2 (steps words files a.0 a.1) a.3 a.4
 
@@ -88,9 +119,9 @@ was_done status result before now (inl e) done = sym e ∙ done
 was_done status result before now (inr (inl e)) done = absurd (cc)
 was_done status result before now (inr (inr e)) done = e.0
 
--- after Done an isolation program is stored
+-- after Done the files of a plan are stored
 pub isolated : (words : List (List ℕ)) (status result : Status) (before now : ShelfState) (sink_before sink_now : SinkState) → Leaves words status before now
-    → Becomes status result sink_before sink_now → result ≡ Done → IfTold before.files (λ files. Wrote IsIsolation words files now.files)
+    → Becomes status result sink_before sink_now → result ≡ Done → IfTold before.files (λ files. Wrote IsPlanned words files now.files)
 isolated words status result before now sink_before sink_now leaves becomes done =
     done_told words before.files now.files (subst (λ s. Leaves words s before now) (was_done status result sink_before sink_now becomes done) leaves)
 
@@ -98,8 +129,7 @@ told_weaker : (before : Option Files) (P Q : Files → Type 0) → ((files : Fil
 told_weaker None P Q weaker h = tt
 told_weaker (Some files) P Q weaker h = weaker files h
 
-wrote_weaker : (P Q : Job → List Painted → List ℕ → Type 0) (words : List (List ℕ)) (before : Files) (now : Option Files)
-    → ((job : Job) (painted : List Painted) (bytes : List ℕ) → P job painted bytes → Q job painted bytes) → Wrote P words before now → Wrote Q words before now
+wrote_weaker : (P Q : Milled → Type 0) (words : List (List ℕ)) (before : Files) (now : Option Files) → ((m : Milled) → P m → Q m) → Wrote P words before now → Wrote Q words before now
 wrote_weaker P Q words before now weaker w = record {
   spec = w.spec;
   given = w.given;
@@ -108,26 +138,48 @@ wrote_weaker P Q words before now weaker w = record {
   painted = w.painted;
   paints = w.paints;
   program = w.program;
+  report = w.report;
   stored = w.stored;
-  holds = weaker w.spec.job w.painted w.program w.holds;
+  holds = weaker (record { job = w.spec.job; painted = w.painted; program = w.program; report = w.report }) w.holds;
 }
 
--- what holds of every isolation program holds of the one that is stored
-pub told_of_isolation : (P : Job → List Painted → List ℕ → Type 0) (words : List (List ℕ)) (before now : Option Files)
-    → ((job : Job) (painted : List Painted) (bytes : List ℕ) → IsIsolation job painted bytes → P job painted bytes)
-    → IfTold before (λ files. Wrote IsIsolation words files now) → IfTold before (λ files. Wrote P words files now)
-told_of_isolation P words before now weaker h =
-    told_weaker before (λ files. Wrote IsIsolation words files now) (λ files. Wrote P words files now) (λ files w. wrote_weaker IsIsolation P words files now weaker w) h
+-- what holds of the bytes of every such plan holds of those that are stored
+pub told_of_plan : (P : Milled → Type 0) (words : List (List ℕ)) (before now : Option Files) → ((m : Milled) → IsPlanned m → P m)
+    → IfTold before (λ files. Wrote IsPlanned words files now) → IfTold before (λ files. Wrote P words files now)
+told_of_plan P words before now weaker h =
+    told_weaker before (λ files. Wrote IsPlanned words files now) (λ files. Wrote P words files now) (λ files w. wrote_weaker IsPlanned P words files now weaker w) h
 
-pub text_of_isolation : (job : Job) (painted : List Painted) (bytes : List ℕ) → IsIsolation job painted bytes → IsTextOf job painted bytes
-text_of_isolation job painted bytes i = i.words
+pub text_of_plan : (m : Milled) → IsPlanned m → IsTextOf m
+text_of_plan m p = (p.plan.program, p.isolates.words, p.program)
 
-runs_weaker : (bytes : List ℕ) (P Q : List Move → Type 0) → ((moves : List Move) → P moves → Q moves) → Runs bytes P → Runs bytes Q
-unfolding Runs RunsTo
-runs_weaker bytes P Q weaker (lines, stands, (moves, run, holds)) = (lines, stands, (moves, run, weaker moves holds))
+-- what the run of the lines does, the run of their text does
+runs_as_text : (bytes : List ℕ) (lines : List Line) (P : List Move → Type 0) → bytes ≡ text_of lines → StandsFor (text_of lines) lines → RunsTo lines P → Runs bytes P
+unfolding Runs
+runs_as_text bytes lines P e stands runs = (lines, subst (λ b. StandsFor b lines) (sym e) stands, runs)
 
-pub isolation_never_bites : (job : Job) (painted : List Painted) (bytes : List ℕ) → IsIsolation job painted bytes → NeverBites job painted bytes
-isolation_never_bites job painted bytes i = runs_weaker bytes (Mills job painted) _ (λ moves m. m.no_bite) i.runs
+runs_weaker : (lines : List Line) (P Q : List Move → Type 0) → ((moves : List Move) → P moves → Q moves) → RunsTo lines P → RunsTo lines Q
+unfolding RunsTo
+runs_weaker lines P Q weaker (moves, run, holds) = (moves, run, weaker moves holds)
 
-pub isolation_passes_contour : (job : Job) (painted : List Painted) (bytes : List ℕ) → IsIsolation job painted bytes → PassesContour job painted bytes
-isolation_passes_contour job painted bytes i = runs_weaker bytes (Mills job painted) _ (λ moves m. m.visited) i.runs
+plan_runs : (m : Milled) (P : List Move → Type 0) (p : IsPlanned m) → RunsTo (lines_of p.plan.program) P → Runs m.program P
+plan_runs m P p runs = runs_as_text m.program (lines_of p.plan.program) P p.program p.stands runs
+
+pub plan_never_bites : (m : Milled) → IsPlanned m → NeverBites m
+plan_never_bites m p = plan_runs m _ p (runs_weaker (lines_of p.plan.program) (Mills m.job m.painted) _ (λ moves mills. mills.no_bite) p.isolates.mills)
+
+pub plan_passes_contour : (m : Milled) → IsPlanned m → PassesContour m
+plan_passes_contour m p = plan_runs m _ p (runs_weaker (lines_of p.plan.program) (Mills m.job m.painted) _ (λ moves mills. mills.visited) p.isolates.mills)
+
+pub plan_separates : (m : Milled) → IsPlanned m → Separates m
+plan_separates m p = record {
+  side = side_of p.plan;
+  number = p.isolates.number;
+  framed = p.isolates.framed;
+  kept = p.isolates.kept;
+  islands = p.isolates.islands;
+  centres = p.isolates.centres;
+  groups = p.isolates.groups;
+  report = p.report;
+  lists = p.isolates.lists;
+  parts = plan_runs m (PartsOthers m.job p.isolates.number p.plan.groups.items) p p.isolates.parts;
+}

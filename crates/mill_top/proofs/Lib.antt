@@ -4,3 +4,4 @@ pub mod HeadlineLaws
 pub mod TellLaws
 pub mod WordLaws
 pub mod SizeLaws
+pub mod ReportLaws

@@ -1,5 +1,5 @@
 -- What a command accepts, and in which order its steps refuse.
-use Rattle.std.specs.Prelude.{ℕ, List, Option, Some, None, Result, Ok, Err}
+use Rattle.std.specs.Prelude.{◌≡◌, ℕ, List, Option, Some, None, Result, Ok, Err}
 use Rattle.board_base.specs.declared.places.Role.{Role}
 use Rattle.board_base.specs.declared.places.Role.TheVariants as roles
 use Rattle.board_base.specs.Files.{Files}
@@ -7,6 +7,8 @@ use Rattle.board_base.specs.Steps.{◌>>=◌}
 use Rattle.shape_parts.specs.declared.shape.Painted.{Painted}
 use Rattle.flash_file.specs.Flashes.{image_of}
 use Rattle.mill_plan.specs.declared.job.Job.{Job}
+use Rattle.mill_plan.specs.declared.limits.LimitHit.{LimitHit}
+use Rattle.mill_plan.specs.Frame.{HitsLimit}
 use Rattle.mill_top.specs.declared.status.Status.{Status}
 use Rattle.mill_top.specs.declared.status.Status.TheVariants.{Gerber}
 use Rattle.mill_top.specs.declared.status.GerberKind.TheVariants.{NotBuiltYet}
@@ -39,3 +41,19 @@ accepted words files = do
   front ← input roles.Front spec.front files
   painted ← image roles.Front front
   Ok (record { job = spec.job; painted = painted })
+
+-- the image passes this limit
+abbrev pub Passes : LimitHit → Accepts → Type 0
+Passes hit x = HitsLimit x.job x.painted hit
+
+-- it passes this limit and no other
+abbrev pub PassesOnly : LimitHit → Accepts → Type 0
+PassesOnly hit x = Passes hit x × ((other : LimitHit) → Passes other x → other ≡ hit)
+
+-- no limit is passed
+abbrev pub IsWithinLimits : Accepts → Type 0
+IsWithinLimits x = (hit : LimitHit) → Passes hit x → ⊥
+
+-- what these words and files give is accepted, and P holds of it
+abbrev pub AcceptedAnd : List (List ℕ) → Files → (Accepts → Type 0) → Type 0
+AcceptedAnd words files P = (x : Accepts) × (accepted words files ≡ Ok x) × P x

@@ -1,13 +1,12 @@
 -- What a step answers in the place of what is expected.
-use Rattle.std.specs.Prelude.{◌≡◌, ◌⊎◌, ℕ, ◌+◌, ◌<◌, List, [], ◌∷◌, ◌++◌, length, Option, Some, None, IsNone, Result, Ok, Err, codes, if◌then◌else◌, nat_lt}
+use Rattle.std.specs.Prelude.{◌≡◌, ◌⊎◌, ℕ, ◌+◌, List, length, Option, Some, None, IsNone, Result, Ok, Err, if◌then◌else◌, nat_lt}
 use Rattle.std.specs.FinMap.{get}
 use Rattle.board_base.specs.declared.places.Role.{Role}
-use Rattle.board_base.specs.declared.places.Role.TheVariants as roles
 use Rattle.board_base.specs.Counts.{Rose, RoseBy}
 use Rattle.board_base.specs.Files.{Files}
 use Rattle.board_base.specs.Shelf.{ShelfState}
 use Rattle.mill_top.specs.declared.status.Status.{Status}
-use Rattle.mill_top.specs.declared.status.Status.TheVariants.{Done, Usage, Gerber, TooLong, ReadFault, WriteFault, Memory}
+use Rattle.mill_top.specs.declared.status.Status.TheVariants.{Done, Usage, TooLong, Limit, ReadFault, WriteFault, Memory}
 use Rattle.mill_top.specs.Limits.{most_bytes}
 
 -- a wrong word is a Usage
@@ -43,6 +42,7 @@ Refuses before now expected (TooLong role) =
     (IsNone before.files × RoseBy (most_bytes + 1) before.taken now.taken) ⊎ ToldAnd before.files (λ files. expected files ≡ Err (TooLong role))
 Refuses before now expected (WriteFault role) = ⊥
 Refuses before now expected Done = ⊥
+Refuses before now expected (Limit hit) = ⊥
 Refuses before now expected status = IfTold before.files (λ files. expected files ≡ Err status)
 
 -- What a step returned, seen by view, is what is expected, or a refusal that may come in its place.
@@ -56,4 +56,5 @@ MakesOf view expected (Ok x) = expected ≡ Ok (view x)
 MakesOf view expected (Err Memory) = Unit {0}
 MakesOf view expected (Err Done) = ⊥
 MakesOf view expected (Err (WriteFault role)) = ⊥
+MakesOf view expected (Err (Limit hit)) = ⊥
 MakesOf view expected (Err status) = expected ≡ Err status

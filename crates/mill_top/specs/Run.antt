@@ -1,19 +1,19 @@
 -- What a run of the top call leaves.
-use Rattle.std.specs.Prelude.{◌≡◌, ◌≢◌, ◌⊎◌, ◌+◌, ◌≤◌, ℕ, List, ◌++◌, Option, Some, None, IsNone, Result, Ok, Err, take}
+use Rattle.std.specs.Prelude.{◌≡◌, ◌≢◌, ◌⊎◌, ℕ, List, ◌++◌, Option, Result, Ok, Err, take}
 use Rattle.board_base.specs.declared.places.Role.{Role}
 use Rattle.board_base.specs.declared.places.Role.TheVariants as roles
-use Rattle.board_base.specs.Counts.{Rose, RoseBy}
+use Rattle.board_base.specs.Counts.{Rose}
 use Rattle.board_base.specs.Files.{Files}
 use Rattle.board_base.specs.Shelf.{ShelfState}
 use Rattle.board_base.specs.Sink.{SinkState, appended, AppendsPrefix}
 use Rattle.mill_top.specs.declared.status.Status.{Status}
-use Rattle.mill_top.specs.declared.status.Status.TheVariants.{Done, Usage, Gerber, TooLong, ReadFault, WriteFault, Memory}
+use Rattle.mill_top.specs.declared.status.Status.TheVariants.{Done, Usage, Limit, WriteFault, Memory}
 use Rattle.mill_top.specs.Words.{spec_of}
-use Rattle.mill_top.specs.Accepted.{Accepts, accepted}
+use Rattle.mill_top.specs.Accepted.{Accepts, accepted, AcceptedAnd, PassesOnly}
 use Rattle.mill_top.specs.Fits.{Fits}
 use Rattle.mill_top.specs.Lines.{line_of}
 use Rattle.mill_top.specs.Outputs.{Output, all_stored, IsStopped}
-use Rattle.mill_top.specs.Answers.{IfTold, ToldAnd, Refuses}
+use Rattle.mill_top.specs.Answers.{IfTold, Refuses}
 
 -- the steps accepted the words and the files, these outputs fit what they accepted, and P holds of them
 abbrev pub Accepted : List (List ℕ) → Option Files → (List Output → Type 0) → Type 0
@@ -39,6 +39,7 @@ HasCause words Done before now sink_before sink_now = Unit {0}
 HasCause words (WriteFault role) before now sink_before sink_now =
     ((role ≡ roles.Lines) × Rose sink_before.faults sink_now.faults)
     ⊎ ((role ≢ roles.Lines) × Rose before.write_faults now.write_faults)
+HasCause words (Limit hit) before now sink_before sink_now = IfTold before.files (λ files. AcceptedAnd words files (PassesOnly hit))
 HasCause words status before now sink_before sink_now = Refuses before now (accepted words) status
 
 -- the line of a refusal was put, whole or up to a counted fault
@@ -78,6 +79,7 @@ RefusalTold status result before now =
 abbrev pub MillHasCause : List (List ℕ) → Status → ShelfState → ShelfState → Type 0
 MillHasCause words Done before now = Unit {0}
 MillHasCause words (WriteFault role) before now = Rose before.write_faults now.write_faults
+MillHasCause words (Limit hit) before now = IfTold before.files (λ files. AcceptedAnd words files (PassesOnly hit))
 MillHasCause words status before now = Refuses before now (accepted words) status
 
 -- Usage comes exactly where the words are outside the grammar, unless memory was wanting.

@@ -1,5 +1,5 @@
 -- Names and lengths in the words of a command.
-use Rattle.std.specs.Prelude.{ℕ, ◌*◌, ◌%◌, ℤ, pos, unsigned_abs, Bool, true, false, ◌&&◌, List, [], ◌∷◌, length, Option, Some, None, if◌then◌else◌, nat_le, nat_lt, nat_eq, int_lt, codes}
+use Rattle.std.specs.Prelude.{ℕ, ◌*◌, ◌%◌, pos, unsigned_abs, Bool, true, false, ◌&&◌, List, [], ◌∷◌, length, Option, Some, None, if◌then◌else◌, nat_le, nat_lt, nat_eq, int_lt, codes}
 use Rattle.std.specs.List.{list_all}
 use Rattle.board_base.specs.Parts.{◌>>=◌}
 use Rattle.board_base.specs.Lattice.{half_diagonal_of}

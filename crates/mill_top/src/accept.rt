@@ -1,8 +1,6 @@
 // All that a command reads before it makes anything.
-ghost use Rattle.std.specs.Prelude.{◌≡◌, pos, IfOk};
-ghost use Rattle.board_base.specs.Places.{AreWithin};
+ghost use Rattle.std.specs.Prelude.{◌≡◌, IfOk};
 ghost use Rattle.board_base.specs.Shelf.{OnlyReads};
-ghost use Rattle.copper_cover.specs.Kept.{dark_rectangle};
 ghost use Rattle.mill_plan.specs.Job.{IsJob};
 ghost use Rattle.mill_top.specs.Words.{texts};
 ghost use Rattle.mill_top.specs.Run.{IsExactUsage, status_of};
@@ -28,7 +26,6 @@ pub struct Accepted {
 // The image of a file.
 fn read_image(alloc: Global, role: Role, bytes: &[u8]) -> Result<Vec<Painted>, Status>
     ensures made { MakesOf (λ v. v.items) (image role bytes.now) result }
-    ensures within { IfOk result (λ painted. AreWithin (pos 400000000) (dark_rectangle painted.items)) }
 {
     match read_flashes(alloc, bytes) {
         Ok(painted) => Ok(painted),
@@ -54,7 +51,6 @@ pub fn accept<S: Shelf>(
     ensures gives { Gives accepts_of (S.state shelf.old) (S.state shelf.new) (accepted (texts words.now)) result }
     ensures usage { IsExactUsage (texts words.now) (status_of result) }
     ensures job { IfOk result (λ x. IsJob x.job) }
-    ensures within { IfOk result (λ x. AreWithin (pos 400000000) (dark_rectangle x.painted.items)) }
 {
     let spec = match read_words(words) {
         Ok(spec) => spec,

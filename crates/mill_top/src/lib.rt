@@ -9,12 +9,14 @@ mod inputs;
 mod lines;
 mod make;
 mod out_file;
+mod report;
 mod sizes;
 mod status;
 mod tell;
 mod top;
 mod words;
 
+pub use mill_plan::LimitHit;
 pub use status::{GerberError, GerberKind, Status};
 pub use top::run;
 

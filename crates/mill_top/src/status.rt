@@ -2,6 +2,7 @@
 ghost use Rattle.std.specs.Prelude.{◌≡◌};
 
 use board_base::Role;
+use mill_plan::LimitHit;
 
 /// Why a Gerber file is refused.
 #[derive(Clone, Copy, Debug, PartialEq, Eq)]
@@ -31,6 +32,8 @@ pub enum Status {
     Gerber { role: Role, error: GerberError },
     /// An input has more than 16,777,216 bytes.
     TooLong { role: Role },
+    /// The front passes a limit of what is planned.
+    Limit(LimitHit),
     /// An input could not be read.
     ReadFault { role: Role },
     /// An output could not be written; `Lines` stands for the sink.
@@ -51,6 +54,7 @@ impl Status {
             Status::Usage { word: _ } => 2,
             Status::Gerber { role: _, error: _ } => 4,
             Status::TooLong { role: _ } => 7,
+            Status::Limit(_) => 7,
             Status::ReadFault { role: _ } => 8,
             Status::WriteFault { role: _ } => 9,
             Status::Memory => 12,

@@ -1,11 +1,19 @@
 // The top call on shelves and sinks in memory.
 use super::*;
+use crate::lines::line;
 use board_base::{MemoryShelf, MemorySink, Role};
 use std::alloc::Global;
 use std::test::Fail;
 
 const TWO_DISCS: &[u8] =
     b"%FSLAX46Y46*%\n%MOMM*%\n%ADD10C,0.100000*%\nD10*\nX100000Y100000D03*\nX1300000Y100000D03*\nM02*\n";
+
+const ONE_DISC: &[u8] =
+    b"%FSLAX46Y46*%\n%MOMM*%\n%ADD10C,0.000001*%\nD10*\nX100000Y100000D03*\nM02*\n";
+
+// No allowed centre lies between these two.
+const NEAR_DISCS: &[u8] =
+    b"%FSLAX46Y46*%\n%MOMM*%\n%ADD10C,0.100000*%\nD10*\nX100000Y100000D03*\nX500000Y100000D03*\nM02*\n";
 
 const WORDS: [&str; 7] = [
     "mill",
@@ -58,10 +66,14 @@ fn carried_out(
     Ok((status, sink.bytes().to_vec(alloc)?))
 }
 
-fn two_discs(alloc: Global) -> Result<MemoryShelf, Fail> {
+fn shelf_with(alloc: Global, front: &[u8]) -> Result<MemoryShelf, Fail> {
     let mut shelf = MemoryShelf::new(alloc);
-    shelf.add("a.gbr", TWO_DISCS)?;
+    shelf.add("a.gbr", front)?;
     Ok(shelf)
+}
+
+fn two_discs(alloc: Global) -> Result<MemoryShelf, Fail> {
+    shelf_with(alloc, TWO_DISCS)
 }
 
 fn add_row(text: &mut String, y: &str, row: &[&str]) -> Result<(), Fail> {
@@ -83,9 +95,7 @@ fn add_row(text: &mut String, y: &str, row: &[&str]) -> Result<(), Fail> {
     Ok(())
 }
 
-#[test]
-fn two_discs_are_milled(rt: HostRuntime) -> Result<(), Fail> {
-    let alloc = rt.alloc();
+fn program_of_two_discs(alloc: Global) -> Result<String, Fail> {
     let mut expected = String::from_str(alloc, HEAD)?;
     add_row(&mut expected, "-0.300000", WHOLE_ROW)?;
     add_row(&mut expected, "-0.100000", SIDES)?;
@@ -93,14 +103,92 @@ fn two_discs_are_milled(rt: HostRuntime) -> Result<(), Fail> {
     add_row(&mut expected, "0.300000", SIDES)?;
     add_row(&mut expected, "0.500000", WHOLE_ROW)?;
     expected.push_str(FOOT)?;
+    Ok(expected)
+}
+
+#[test]
+fn two_discs_are_milled(rt: HostRuntime) -> Result<(), Fail> {
+    let alloc = rt.alloc();
     let mut shelf = two_discs(alloc)?;
     let (status, lines) = carried_out(alloc, &WORDS, &mut shelf)?;
     assert_eq!(rt; status, Status::Done);
     assert_eq!(rt; lines.as_slice(), b"pcbmill: ok\n".as_slice());
     assert_eq!(rt;
         shelf.get("front.ngc").ok_or("not written")?,
-        expected.as_bytes()
+        program_of_two_discs(alloc)?.as_bytes()
     );
+    Ok(())
+}
+
+// A front, and the report of its isolation.
+#[test]
+fn reports_tell_the_counts_and_the_groups(rt: HostRuntime) -> Result<(), Fail> {
+    let alloc = rt.alloc();
+    for (front, report) in [
+        (
+            TWO_DISCS,
+            "pcbmill report 1\nfront frame 13 7 kept 2 islands 2 centres 32\nend\n",
+        ),
+        (
+            ONE_DISC,
+            "pcbmill report 1\nfront frame 7 7 kept 1 islands 1 centres 16\nend\n",
+        ),
+        (
+            NEAR_DISCS,
+            "pcbmill report 1\nfront frame 9 7 kept 2 islands 2 centres 20\nfront joined 1 2\nend\n",
+        ),
+    ] {
+        let mut shelf = shelf_with(alloc, front)?;
+        let (status, _) = carried_out(alloc, &WORDS, &mut shelf)?;
+        assert_eq!(rt; status, Status::Done);
+        assert_eq!(rt;
+            shelf.get("report.txt").ok_or("not written")?,
+            report.as_bytes()
+        );
+    }
+    Ok(())
+}
+
+#[test]
+fn a_report_that_is_not_written_is_told(rt: HostRuntime) -> Result<(), Fail> {
+    let alloc = rt.alloc();
+    let mut shelf = two_discs(alloc)?;
+    shelf.fail_write(2);
+    let (status, lines) = carried_out(alloc, &WORDS, &mut shelf)?;
+    assert_eq!(rt; status, Status::WriteFault { role: Role::Report });
+    assert_eq!(rt; status.number(), 9);
+    assert_eq!(rt; lines.as_slice(), b"pcbmill: write report\n".as_slice());
+    assert_eq!(rt;
+        shelf.get("front.ngc").ok_or("not written")?,
+        program_of_two_discs(alloc)?.as_bytes()
+    );
+    assert!(rt; shelf.get("report.txt").is_none());
+    Ok(())
+}
+
+// A limit that is passed, and its line.
+#[test]
+fn limits_have_lines(rt: HostRuntime) -> Result<(), Fail> {
+    let alloc = rt.alloc();
+    for (hit, text) in [
+        (
+            LimitHit::Cells(67_108_865),
+            "pcbmill: limit: Cells 67108865\n",
+        ),
+        (LimitHit::Side(32_769), "pcbmill: limit: Side 32769\n"),
+        (
+            LimitHit::Reach(500_050_000),
+            "pcbmill: limit: Reach 500050000\n",
+        ),
+        (
+            LimitHit::Reach(-500_050_000),
+            "pcbmill: limit: Reach -500050000\n",
+        ),
+        (LimitHit::Islands, "pcbmill: limit: Islands\n"),
+    ] {
+        assert_eq!(rt; line(alloc, Status::Limit(hit))?.as_str(), text);
+        assert_eq!(rt; Status::Limit(hit).number(), 7);
+    }
     Ok(())
 }
 
