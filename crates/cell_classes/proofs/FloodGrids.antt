@@ -1,12 +1,12 @@
 -- A flood over the grid.
-use Rattle.std.proofs.Common.{◌≡◌, ◌≢◌, ℕ, ◌+◌, ◌-◌, ◌*◌, ◌<◌, ◌≤◌, Bool, true, false, List, [], ◌∷◌, ◌++◌, Some, None, length, drop, set, slice_get, slice_index, ◌⊎◌, inl, inr, refl, sym, ap, subst, ◌∙◌, arith}
+use Rattle.std.proofs.Common.{◌≡◌, ◌≢◌, ℕ, ◌+◌, ◌-◌, ◌*◌, ◌<◌, ◌≤◌, Bool, List, [], ◌∷◌, ◌++◌, Some, None, length, drop, set, slice_get, slice_index, ◌⊎◌, inl, inr, refl, sym, ap, subst, ◌∙◌, arith}
 use Rattle.std.proofs.lemmas.List.{length-append}
 use Rattle.board_base.specs.declared.places.Cell.{Cell}
 use Rattle.cell_grid.specs.declared.frames.Frame.{Frame}
 use Rattle.cell_grid.specs.declared.bits.Plane.{Plane}
 use Rattle.cell_grid.specs.Grid.{Grid, plane_of}
 use Rattle.cell_grid.specs.Place.{InFrame, place_of, cells_of}
-use Rattle.cell_grid.specs.Cells.{in_frame, number_in}
+use Rattle.cell_grid.specs.Cells.{number_in}
 use Rattle.cell_grid.proofs.PlaceLaws.{place_below}
 use Rattle.cell_classes.specs.Ways.{neighbour_of}
 use Rattle.cell_classes.specs.Taken.{is_taken, outer_number}

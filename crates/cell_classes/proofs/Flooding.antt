@@ -1,22 +1,21 @@
 -- What a flood keeps.
-use Rattle.std.proofs.Common.{◌≡◌, ◌≢◌, ℕ, zero, suc, pos, ◌+◌, ◌-◌, ◌*◌, ◌<◌, ◌≤◌, ◌==◌, Bool, true, false, List, [], ◌∷◌, ◌++◌, Option, Some, None, length, drop, set, get_or, slice_get, count_by, ◌⊎◌, inl, inr, refl, sym, ap, subst, ◌∙◌, arith}
+use Rattle.std.proofs.Common.{◌≡◌, ◌≢◌, ℕ, zero, suc, pos, ◌+◌, ◌<◌, ◌≤◌, ◌==◌, Bool, true, List, [], ◌∷◌, ◌++◌, Some, None, length, drop, set, get_or, slice_get, count_by, ◌⊎◌, inl, inr, refl, sym, ap, subst, ◌∙◌, arith}
 use Rattle.std.specs.List.{Contains}
 use Rattle.std.proofs.lemmas.List.{length-set}
 use Rattle.std.proofs.lemmas.List.Elements.{Contains-push, Contains-push_cases, Contains-append_left}
-use Rattle.std.proofs.lemmas.Bool.{false≢true, cases_eq}
+use Rattle.std.proofs.lemmas.Bool.{cases_eq}
 use Rattle.board_base.specs.declared.places.Cell.{Cell}
 use Rattle.board_base.specs.Lattice.{IsBeside}
 use Rattle.cell_grid.specs.declared.frames.Frame.{Frame}
-use Rattle.cell_grid.specs.Grid.{Grid}
-use Rattle.cell_grid.specs.Place.{InFrame, place_of, cells_of}
+use Rattle.cell_grid.specs.Place.{place_of, cells_of}
 use Rattle.cell_grid.specs.Cells.{in_frame, number_in}
 use Rattle.cell_grid.specs.Chains.{Chain, IsLinked}
 use Rattle.cell_grid.proofs.PlaceLaws.{place_below}
 use Rattle.cell_classes.specs.Ways.{neighbour_of}
-use Rattle.cell_classes.specs.Floods.{IsOpen, numbered, IsSpread, IsPassed, IsReady, IsReached, IsFlooded, IsFresh, IsGrown}
+use Rattle.cell_classes.specs.Floods.{IsOpen, IsReady, IsReached, IsFlooded, IsFresh, IsGrown}
 use Rattle.cell_classes.proofs.Frames.{cell, inside}
 use Rattle.cell_classes.proofs.Links.{beside_sym, beside_neighbour, neighbours, linked_self, linked_end}
-use Rattle.cell_classes.proofs.Numbers.{number_inside, number_all, count_one, count_none, room, full, written_here, written_else, here_or_else, still, split}
+use Rattle.cell_classes.proofs.Numbers.{number_inside, number_all, count_one, count_none, written_here, written_else, here_or_else, still, split}
 
 -- some cell, for where none is taken
 abbrev pub nowhere : Cell

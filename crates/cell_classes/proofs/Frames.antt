@@ -7,7 +7,7 @@ use Rattle.std.proofs.lemmas.Nat.{div-add-mod'}
 use borrow.Author.Differences.{ints}
 use Rattle.board_base.specs.declared.places.Cell.{Cell}
 use Rattle.cell_grid.specs.declared.frames.Frame.{Frame}
-use Rattle.cell_grid.specs.Place.{InFrame, IsBetween, place_of, row_of, column_of, cells_of, cell_of_place}
+use Rattle.cell_grid.specs.Place.{InFrame, IsBetween, place_of, row_of, cells_of, cell_of_place}
 use Rattle.cell_grid.specs.Chains.{IsBefore}
 use Rattle.cell_grid.specs.Cells.{in_frame}
 use Rattle.number_laws.proofs.Tests.{by_bool}

@@ -1,5 +1,5 @@
 -- What is carried from one grid to another where only the numbers and the queue change.
-use Rattle.std.proofs.Common.{◌≡◌, ℕ, ◌+◌, ◌*◌, ◌<◌, ◌≤◌, Bool, true, false, not, List, [], ◌∷◌, ◌++◌, length, set, get_or, slice_index, refl, sym, ap, subst, ◌∙◌, arith, inl, inr, get_or-set_same, get_or-set_other}
+use Rattle.std.proofs.Common.{◌≡◌, ℕ, ◌+◌, ◌<◌, Bool, true, false, List, [], ◌∷◌, ◌++◌, length, set, get_or, slice_index, refl, sym, ap, subst, ◌∙◌, arith, inl, inr, get_or-set_same, get_or-set_other}
 use Rattle.std.proofs.lemmas.List.{length-set, get_or_past}
 use Rattle.std.proofs.lemmas.Bool.{cases_eq, cases_lt}
 use Rattle.board_base.specs.declared.places.Cell.{Cell}
@@ -7,14 +7,14 @@ use Rattle.cell_grid.specs.declared.frames.Frame.{Frame}
 use Rattle.cell_grid.specs.declared.bits.Plane.{Plane}
 use Rattle.cell_grid.specs.Grid.{Grid, plane_of}
 use Rattle.cell_grid.specs.Place.{IsFrame, InFrame, place_of, cells_of}
-use Rattle.cell_grid.specs.Cells.{in_frame, in_plane, number_in, IsOnBorder}
+use Rattle.cell_grid.specs.Cells.{number_in, IsOnBorder}
 use Rattle.cell_grid.specs.Chains.{IsClasses}
 use Rattle.cell_grid.specs.Islands.{AreIslands}
 use Rattle.cell_grid.proofs.PlaceLaws.{place_below}
-use Rattle.cell_classes.specs.Taken.{is_taken, outer_number}
+use Rattle.cell_classes.specs.Taken.{is_taken}
 use Rattle.cell_classes.specs.Floods.{ChangesNumbers, IsOpen, numbered, IsReady, IsFlooded}
 use Rattle.cell_classes.specs.Classes.{IsBegun, IsNumbered, IsSeeded}
-use Rattle.cell_classes.proofs.Frames.{inside, of_inside}
+use Rattle.cell_classes.proofs.Frames.{of_inside}
 use Rattle.cell_classes.proofs.Numbers.{number_all, number_inside, room, rest_outside}
 use Rattle.cell_classes.proofs.FloodGrids.{taken_as}
 use Rattle.cell_classes.proofs.Seeds.{IsSeeding, none_seeded, seed_on, seed_off, all_seeded, border_ready, border_begun}

@@ -1,11 +1,10 @@
 -- The numbering of classes over the grid.
-use Rattle.std.proofs.Common.{◌≡◌, ℕ, ◌+◌, ◌*◌, ◌<◌, ◌≤◌, Bool, true, false, List, length, refl, sym, ap, subst, ◌∙◌, arith}
+use Rattle.std.proofs.Common.{◌≡◌, ℕ, ◌+◌, ◌<◌, ◌≤◌, Bool, true, false, length, refl, sym, ap, subst, ◌∙◌, arith}
 use Rattle.board_base.specs.declared.places.Cell.{Cell}
 use Rattle.cell_grid.specs.declared.frames.Frame.{Frame}
 use Rattle.cell_grid.specs.declared.bits.Plane.{Plane}
 use Rattle.cell_grid.specs.Grid.{Grid, plane_of}
 use Rattle.cell_grid.specs.Place.{IsFrame, InFrame, place_of, cells_of}
-use Rattle.cell_grid.specs.Cells.{in_frame, in_plane, number_in}
 use Rattle.cell_classes.specs.Taken.{is_taken, outer_number}
 use Rattle.cell_classes.specs.Floods.{ChangesNumbers, IsOpen, IsFresh, IsGrown}
 use Rattle.cell_classes.specs.Classes.{IsBegun, IsNumbered}

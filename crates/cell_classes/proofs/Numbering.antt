@@ -1,21 +1,18 @@
 -- The classes with a cell before a place are numbered.
-use Rattle.std.proofs.Common.{◌≡◌, ◌≢◌, ℕ, zero, suc, ◌+◌, ◌*◌, ◌<◌, ◌≤◌, Bool, true, false, not, List, length, get_or, slice_index, refl, sym, ap, subst, ◌∙◌, arith, inl, inr, ◌⊎◌}
+use Rattle.std.proofs.Common.{◌≡◌, ◌≢◌, ℕ, ◌+◌, ◌<◌, ◌≤◌, Bool, true, false, List, length, refl, sym, ap, subst, ◌∙◌, arith, inl, inr, ◌⊎◌}
 use Rattle.std.proofs.lemmas.Bool.{cases_eq, cases_lt, false≢true}
-use Rattle.std.proofs.lemmas.List.{get_or_past}
 use Rattle.board_base.specs.declared.places.Cell.{Cell}
-use Rattle.board_base.specs.Lattice.{IsBeside}
 use Rattle.cell_grid.specs.declared.frames.Frame.{Frame}
-use Rattle.cell_grid.specs.Place.{InFrame, place_of, cells_of, cell_of_place}
-use Rattle.cell_grid.specs.Cells.{in_frame, in_plane, number_in}
-use Rattle.cell_grid.specs.Chains.{IsBefore, IsLinked, IsClasses}
-use Rattle.cell_grid.specs.Islands.{AreIslands}
+use Rattle.cell_grid.specs.Place.{InFrame, place_of, cells_of}
+use Rattle.cell_grid.specs.Cells.{in_frame, number_in}
+use Rattle.cell_grid.specs.Chains.{IsBefore, IsLinked}
 use Rattle.cell_grid.proofs.PlaceLaws.{place_below, place_same}
 use Rattle.number_laws.proofs.Tests.{by_bool}
 use Rattle.cell_classes.specs.Floods.{IsOpen, IsFresh, IsGrown}
 use Rattle.cell_classes.specs.Classes.{IsBegun, IsNumbered}
-use Rattle.cell_classes.proofs.Frames.{inside, of_inside, before}
+use Rattle.cell_classes.proofs.Frames.{inside, before}
 use Rattle.cell_classes.proofs.Links.{linked_self, linked_sym, linked_trans, linked_step, linked_end, linked_start}
-use Rattle.cell_classes.proofs.Numbers.{number_inside, number_outside, at_places}
+use Rattle.cell_classes.proofs.Numbers.{number_outside, at_places}
 
 module _ (f : Frame) (taken : Cell → Bool) (outer : ℕ) where
   -- all classes with a cell before place n are numbered

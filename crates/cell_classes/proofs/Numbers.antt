@@ -1,5 +1,5 @@
 -- The numbers of the cells after one is written, and which cells are taken.
-use Rattle.std.proofs.Common.{◌≡◌, ◌≢◌, ℕ, ◌+◌, ◌*◌, ◌<◌, ◌≤◌, ◌==◌, cond, not, Bool, true, false, List, [], ◌∷◌, length, set, get_or, slice_index, count_by, fold, suc, zero, ◌⊎◌, inl, inr, refl, sym, ap, subst, ◌∙◌, arith, get_or-set_same, get_or-set_other}
+use Rattle.std.proofs.Common.{◌≡◌, ◌≢◌, ℕ, ◌+◌, ◌<◌, ◌≤◌, ◌==◌, cond, not, Bool, true, false, List, [], ◌∷◌, length, set, get_or, slice_index, count_by, fold, suc, ◌⊎◌, inl, inr, refl, sym, ap, subst, ◌∙◌, arith, get_or-set_same, get_or-set_other}
 use Rattle.std.proofs.lemmas.List.{length-set, get_or_past}
 use Rattle.std.proofs.lemmas.List.Sums.{sum_by-set, count_by-le-length}
 use Rattle.std.proofs.lemmas.Bool.{false≢true, cases_eq, cases_lt, eqb-true, eq-eqb, ne_eqb}
@@ -10,7 +10,7 @@ use Rattle.cell_grid.specs.declared.bits.Plane.{Plane}
 use Rattle.cell_grid.specs.declared.bits.Plane.TheVariants.{Kept, Allowed, Pass, Visited, Swept}
 use Rattle.cell_grid.specs.Grid.{Grid, plane_of}
 use Rattle.cell_grid.specs.Place.{InFrame, place_of, cells_of, cell_of_place}
-use Rattle.cell_grid.specs.Cells.{in_frame, in_plane, number_in}
+use Rattle.cell_grid.specs.Cells.{in_frame, number_in}
 use Rattle.cell_grid.proofs.PlaceLaws.{place_below, place_same}
 use Rattle.number_laws.proofs.Tests.{by_bool}
 use Rattle.cell_classes.specs.Taken.{is_taken, outer_number}

@@ -1,5 +1,5 @@
 -- The border's cells begin the class of the outside.
-use Rattle.std.proofs.Common.{◌≡◌, ◌≢◌, ℕ, ◌+◌, ◌<◌, ◌≤◌, ◌==◌, ℤ, pos, negsuc, ◌+ℤ◌, ◌-ℤ◌, ◌≤ℤ◌, ◌<ℤ◌, unsigned_abs, Bool, true, false, List, [], ◌∷◌, ◌++◌, length, set, get_or, slice_index, count_by, ◌⊎◌, inl, inr, refl, sym, ap, subst, ◌∙◌, arith}
+use Rattle.std.proofs.Common.{◌≡◌, ◌≢◌, ℕ, ◌+◌, ◌<◌, ◌≤◌, ◌==◌, ℤ, pos, negsuc, ◌+ℤ◌, ◌-ℤ◌, ◌≤ℤ◌, ◌<ℤ◌, unsigned_abs, Bool, true, false, List, [], ◌∷◌, ◌++◌, length, set, slice_index, count_by, ◌⊎◌, inl, inr, refl, sym, ap, subst, ◌∙◌, arith}
 use Rattle.std.specs.List.{Contains}
 use Rattle.std.proofs.lemmas.List.{length-set}
 use Rattle.std.proofs.lemmas.List.Elements.{Contains-push, Contains-push_cases, Contains-append_left}
@@ -16,7 +16,7 @@ use Rattle.number_laws.proofs.Tests.{by_bool}
 use Rattle.cell_classes.specs.Floods.{IsOpen, IsReady, IsReached, IsFlooded}
 use Rattle.cell_classes.specs.Classes.{IsBegun, IsEdge, IsSeeded}
 use Rattle.cell_classes.proofs.Frames.{cell, inside, of_inside, not_inside}
-use Rattle.cell_classes.proofs.Links.{beside_sym, linked_self, linked_sym, linked_trans, linked_step, linked_end, linked_start, outside_linked}
+use Rattle.cell_classes.proofs.Links.{beside_sym, linked_sym, linked_trans, linked_step, linked_end, linked_start, outside_linked}
 use Rattle.cell_classes.proofs.Numbers.{number_inside, number_outside, number_all, count_one, count_none, written_here, written_else, here_or_else, still, split}
 use Rattle.cell_classes.proofs.Flooding.{none_contained}
 

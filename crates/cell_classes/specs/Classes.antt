@@ -1,5 +1,5 @@
 -- Classes of taken cells, numbered in the order of their first cells.
-use Rattle.std.specs.Prelude.{◌≡◌, ℕ, ◌+◌, ◌<◌, ◌≤◌, ◌==◌, ◌⊎◌, Bool, true, false, List, count_by, slice_index}
+use Rattle.std.specs.Prelude.{◌≡◌, ℕ, ◌+◌, ◌<◌, ◌≤◌, ◌==◌, ◌⊎◌, Bool, true, false, List, count_by}
 use Rattle.std.specs.List.{Contains}
 use Rattle.board_base.specs.declared.places.Cell.{Cell}
 use Rattle.cell_grid.specs.declared.frames.Frame.{Frame}

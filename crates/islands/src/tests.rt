@@ -31,8 +31,7 @@ fn dotted(alloc: Global, width: u16, height: u16) -> Option<Workbench> {
 }
 
 // The label of a cell, or 99 outside the frame.
-fn label_at(bench: &Workbench, i: i32, j: i32) -> u16 {
-    let c = Cell { i, j };
+fn label_at(bench: &Workbench, c: Cell) -> u16 {
     if is_in_frame(bench.frame(), c) {
         bench.label(c)
     } else {
@@ -54,7 +53,7 @@ fn islands_are_numbered_row_by_row(rt: HostRuntime) {
         (4, 2, 6),
         (1, 1, 0),
     ] {
-        assert_eq!(rt; label_at(&bench, i, j), expected);
+        assert_eq!(rt; label_at(&bench, Cell { i, j }), expected);
     }
 }
 
@@ -68,8 +67,8 @@ fn islands_that_meet_at_a_corner_are_one(rt: HostRuntime) {
         bench.set(Plane::Kept, between, true);
     }
     assert_eq!(rt; label(&mut bench), Ok(3));
-    assert_eq!(rt; label_at(&bench, 2, 2), 1);
-    assert_eq!(rt; label_at(&bench, 4, 2), 3);
+    assert_eq!(rt; label_at(&bench, Cell { i: 2, j: 2 }), 1);
+    assert_eq!(rt; label_at(&bench, Cell { i: 4, j: 2 }), 3);
 }
 
 #[test]
@@ -80,6 +79,6 @@ fn more_than_65535_islands_are_refused(rt: HostRuntime) {
             panic!(rt; "no memory");
         };
         assert_eq!(rt; label(&mut bench), expected);
-        assert_eq!(rt; label_at(&bench, 508, 510), last);
+        assert_eq!(rt; label_at(&bench, Cell { i: 508, j: 510 }), last);
     }
 }

@@ -1,6 +1,5 @@
-use Rattle.std.proofs.Common.{◌≡◌, true, ◌∙◌, ap, arith}
-use Rattle.cell_grid.specs.Place.{cells_of}
-use Rattle.cell_classes.proofs.Grids.{clear_begun, islands_of, carried_back, changes_both, same_frames}
+use Rattle.std.proofs.Common.{true, arith}
+use Rattle.cell_classes.proofs.Grids.{clear_begun, islands_of, carried_back, changes_both}
 use Rattle.cell_classes.specs.Classes.{IsNumbered}
 use Rattle.cell_classes.proofs.classes.number_classes.Goals as goal
 

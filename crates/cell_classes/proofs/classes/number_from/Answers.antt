@@ -1,11 +1,9 @@
 use Rattle.std.proofs.Common.{◌≡◌, ℕ, ◌+◌, ◌*◌, refl, ap, sym, subst, ◌∙◌, arith}
 use Rattle.std.proofs.Math.Nat.{mul_comm}
 use Rattle.cell_grid.specs.declared.frames.Frame.{Frame}
-use Rattle.cell_grid.specs.Place.{InFrame, place_of}
-use Rattle.cell_grid.specs.Grid.{Grid}
+use Rattle.cell_grid.specs.Place.{InFrame}
 use Rattle.cell_grid.proofs.PlaceLaws.{place_below}
-use Rattle.cell_classes.specs.Floods.{IsGrown}
-use Rattle.cell_classes.proofs.NumberGrids.{IsAtPlace, at_start, frame_of, sized, fresh_at, class_at, none_at, at_same, moved, fits, all_at}
+use Rattle.cell_classes.proofs.NumberGrids.{at_start, frame_of, sized, fresh_at, class_at, none_at, at_same, moved, fits, all_at}
 use Rattle.cell_classes.proofs.classes.number_from.Goals as goal
 use Rattle.cell_classes.proofs.classes.number_from.Goals.{then-is_open, else-is_open}
 

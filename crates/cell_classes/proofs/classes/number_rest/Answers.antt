@@ -1,4 +1,4 @@
-use Rattle.std.proofs.Common.{◌≡◌, false, ◌∙◌, ap, arith}
+use Rattle.std.proofs.Common.{false, arith}
 use Rattle.cell_classes.specs.Classes.{IsNumbered}
 use Rattle.cell_classes.proofs.Grids.{rest_ready, rest_begun, classes_of, carried_back, changes_both}
 use Rattle.cell_classes.proofs.classes.number_rest.Goals as goal

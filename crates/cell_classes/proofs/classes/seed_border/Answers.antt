@@ -1,9 +1,7 @@
 use Rattle.std.proofs.Common.{◌≡◌, ℕ, ◌+◌, ◌*◌, sym, ap, subst, ◌∙◌, arith}
 use Rattle.std.proofs.lemmas.Bool.{false≢true}
 use Rattle.std.proofs.Math.Nat.{mul_comm}
-use Rattle.cell_grid.specs.declared.frames.Frame.{Frame}
-use Rattle.cell_grid.specs.Place.{InFrame}
-use Rattle.cell_classes.proofs.Grids.{IsSeedingAt, seeding_begins, seed_room, seeds_one, seeds_none, seeding_same, seeds_all, same_frames}
+use Rattle.cell_classes.proofs.Grids.{IsSeedingAt, seeding_begins, seed_room, seeds_one, seeds_none, seeding_same, seeds_all}
 use Rattle.cell_classes.proofs.Seeds.{edge_border, border_edge}
 use Rattle.cell_grid.specs.Grid.{Grid}
 use Rattle.cell_classes.proofs.classes.seed_border.Goals as goal

@@ -1,4 +1,4 @@
-use Rattle.std.proofs.Common.{◌≡◌, sym, subst, ◌∙◌, arith}
+use Rattle.std.proofs.Common.{sym, subst, ◌∙◌, arith}
 use Rattle.cell_grid.specs.declared.frames.Frame.{Frame}
 use Rattle.cell_grid.specs.Place.{InFrame}
 use Rattle.cell_classes.proofs.FloodGrids.{begins, takes, takes_one, goes_on, ends, its_frame, has_room, done, changed, still_sized}

@@ -1,6 +1,5 @@
-use Rattle.std.proofs.Common.{◌≡◌, ◌<◌, ap, sym, subst, ◌∙◌, arith}
-use Rattle.cell_grid.specs.Grid.{Grid}
-use Rattle.cell_grid.specs.Place.{InFrame, cells_of}
+use Rattle.std.proofs.Common.{ap, ◌∙◌}
+use Rattle.cell_grid.specs.Place.{cells_of}
 use Rattle.cell_classes.proofs.FloodGrids.{fresh_ready, fresh_grown, fresh_rest, fresh_frame, fresh_put}
 use Rattle.cell_classes.proofs.floods.flood_from.Goals as goal
 

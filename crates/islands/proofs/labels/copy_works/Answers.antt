@@ -1,6 +1,5 @@
-use Rattle.std.proofs.Common.{◌≡◌, ℕ, ◌+◌, ◌*◌, ◌<◌, ap, sym, ◌∙◌, arith}
+use Rattle.std.proofs.Common.{◌≡◌, ℕ, ◌*◌, ap, ◌∙◌, arith}
 use Rattle.std.proofs.Math.Nat.{mul_comm}
-use Rattle.cell_grid.specs.Place.{cells_of}
 use Rattle.islands.proofs.Written.{none_written, one_written, written_same, all_written, copied, small_there}
 use Rattle.islands.proofs.labels.copy_works.Goals as goal
 

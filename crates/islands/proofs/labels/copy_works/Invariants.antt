@@ -1,5 +1,4 @@
 use Rattle.std.proofs.Common.{◌+◌, ◌*◌}
-use Rattle.cell_grid.specs.Place.{cells_of}
 use Rattle.islands.proofs.Written.{IsWrittenBelow}
 use Rattle.islands.proofs.labels.copy_works.Given as goal
 
