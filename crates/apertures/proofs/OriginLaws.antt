@@ -1,5 +1,5 @@
 -- The shape of an aperture at the origin.
-use Rattle.std.proofs.Common.{◌≡◌, refl, ℕ, suc, ◌+◌, ◌<◌, ◌≤◌, ℤ, pos, negsuc, ◌+ℤ◌, List, [], ◌∷◌, Option, Some, None, Bool, true, length, arith, ap, sym, ◌∙◌}
+use Rattle.std.proofs.Common.{◌≡◌, refl, ℕ, suc, ◌≤◌, ℤ, pos, ◌+ℤ◌, List, [], ◌∷◌, Some, None, Bool, true, arith, ap, ◌∙◌}
 use Rattle.std.specs.Prelude.{unsigned_abs, nat_le, cond, ◌&&◌}
 use Rattle.std.specs.List.{All}
 use borrow.Author.Differences.{ints}
@@ -11,7 +11,7 @@ use Rattle.fixed_num.specs.Angles.{in_turn, in_range, point_at}
 use Rattle.shape_parts.specs.declared.shape.Part.{Part}
 use Rattle.shape_parts.specs.declared.shape.Part.TheVariants.{Disc, Capsule}
 use Rattle.shape_parts.specs.declared.shape.Piece.{Piece}
-use Rattle.apertures.specs.Figures.{Figure, IsBounded, IsBoundedPiece, IsFigure}
+use Rattle.apertures.specs.Figures.{IsBounded, IsBoundedPiece}
 use Rattle.apertures.specs.Defined.{at}
 use Rattle.apertures.specs.Placed.{mirrored, turned, shifted, placed_point, moved_part, moved, placed}
 use Rattle.apertures.specs.Origin.{OriginLaw}
