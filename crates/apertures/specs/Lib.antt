@@ -3,3 +3,4 @@ pub mod Figures
 pub mod Defined
 pub mod Placed
 pub mod Spelled
+pub mod Origin
