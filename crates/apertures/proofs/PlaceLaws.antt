@@ -4,7 +4,7 @@ use borrow.Author.Differences.{ints}
 use Rattle.std.proofs.Math.Seq.{drop-cons}
 use Rattle.board_base.specs.Parts.{◌>>=◌}
 use Rattle.board_base.specs.declared.places.Point.{Point}
-use Rattle.board_base.specs.Places.{IsCoordinate, IsPlace, IsNearCoordinate, IsNearPlace}
+use Rattle.board_base.specs.Places.{IsPlace}
 use Rattle.shape_parts.specs.Parts.{IsPart}
 use Rattle.shape_parts.specs.declared.shape.Part.{Part}
 use Rattle.shape_parts.specs.declared.shape.Part.TheVariants.{Disc, Capsule}
@@ -43,14 +43,7 @@ step move xs new items i d part all less e more h =
     (ap (λ l. before l (moved move (drop (suc i) items))) more
     ∙ went_on move xs (drop (suc i) items) (get_or items i d) part all e (ap (λ l. before xs (moved move l)) (sym (drop-cons items i d less)) ∙ h))
 
--- a place is near enough for a shape
-is_near : (v : ℤ) → IsCoordinate v → IsNearCoordinate v
-is_near v h = record { low = omega (arith, ints, h.low); high = omega (arith, ints, h.high) }
-
-near_place : (p : Point) → IsPlace p → IsNearPlace p
-near_place p h = record { x_in = is_near p.x h.x; y_in = is_near p.y h.y }
-
 -- a shape takes what an aperture has
 pub is_part : (p : Part) → IsBounded p → IsPart p
-is_part (Disc c d) h = (near_place c h.0, h.1)
-is_part (Capsule a b d) h = (near_place a h.0, near_place b h.1, h.2)
+is_part (Disc c d) h = h
+is_part (Capsule a b d) h = h
