@@ -85,12 +85,12 @@ pub border_at_edge : (f : Frame) (c : Cell) → IsOnBorder f c → IsAtEdge f c
 border_at_edge f c b =
     let inside = in_frame_is f c b.inside in
     elim b.edge as (λ _. IsAtEdge f c) [
-      inl west ↦ at_west (least c.i f.i0 inside.column.low west)
-    | inr rest ↦ elim rest as (λ _. IsAtEdge f c) [
-        inl east ↦ at_east (most c.i f.i0 f.width inside.column.low east)
-      | inr more ↦ elim more as (λ _. IsAtEdge f c) [
-          inl south ↦ at_south (least c.j f.j0 inside.row.low south)
-        | inr north ↦ at_north (most c.j f.j0 f.height inside.row.low north)
+      | inl west ↦ at_west (least c.i f.i0 inside.column.low west)
+      | inr rest ↦ elim rest as (λ _. IsAtEdge f c) [
+        | inl east ↦ at_east (most c.i f.i0 f.width inside.column.low east)
+        | inr more ↦ elim more as (λ _. IsAtEdge f c) [
+          | inl south ↦ at_south (least c.j f.j0 inside.row.low south)
+          | inr north ↦ at_north (most c.j f.j0 f.height inside.row.low north)
         ]
       ]
     ]

@@ -52,9 +52,9 @@ module _ (kept : Cell → Bool) (f : Frame) (clearances : List ℕ) (g : ℕ) (s
 
   allowed_number : (c : Cell) (n : ℕ) → IsClearance kept c n → IsAllowed kept (pos g) c → nat_lt g n ≡ true
   allowed_number c n h allowed = elim h.reached as (λ _. nat_lt g n ≡ true) [
-      inl near ↦ below g n (less g n (subst (λ d. pos g <ℤ d) near.1.1 (allowed near.0 near.1.0)))
+    | inl near ↦ below g n (less g n (subst (λ d. pos g <ℤ d) near.1.1 (allowed near.0 near.1.0)))
     | inr none ↦ rw none.1 (below g 4294967295 (omega (arith, small)))
-    ]
+  ]
     where
       less : (g n : ℕ) → pos g <ℤ pos n → g < n
       less g n h = omega (arith, ints)

@@ -67,9 +67,9 @@ pick false a b x h = inr (refl, h)
 places_on : (k : ℕ) (plane : List Bool) (n : ℕ) → Contains (places_from k plane) n → IsOn k plane n
 places_on k [] n there = absurd (omega (arith, there.1))
 places_on k (b ∷ plane) n there = elim (pick b (k ∷ places_from (suc k) plane) (places_from (suc k) plane) n there) as (λ _. IsOn k (b ∷ plane) n) [
-    inl set ↦ first (λ there. places_on (suc k) plane n there) set.0 set.1
+  | inl set ↦ first (λ there. places_on (suc k) plane n there) set.0 set.1
   | inr clear ↦ later (places_on (suc k) plane n clear.1)
-  ]
+]
   where
     later : IsOn (suc k) plane n → IsOn k (b ∷ plane) n
     later h = record { from = omega (arith, h.from); below = omega (arith, h.below); on = on }
@@ -139,7 +139,7 @@ module _ (f : Frame) (plane : List Bool) (sized : length plane ≡ cells_of f) w
   all_after m k (b ∷ bits) less small =
       let later = all_after m (suc k) bits (omega (arith, less)) (omega (arith, small)) in
       let first = before f (cell_of_place f m) (cell_of_place f k) (cell_in f m (omega (arith, less, small))) (cell_in f k (omega (arith, small)))
-          (subst (λ a. a < place_of f (cell_of_place f k)) (sym (place_cell f m (omega (arith, less, small)))) (subst (λ a. m < a) (sym (place_cell f k (omega (arith, small)))) less)) in
+      (subst (λ a. a < place_of f (cell_of_place f k)) (sym (place_cell f m (omega (arith, less, small)))) (subst (λ a. m < a) (sym (place_cell f k (omega (arith, small)))) less)) in
       by_bool b (λ e. rw e (All-cons (IsBefore (cell_of_place f m)) (cell_of_place f k) (map (cell_of_place f) (places_from (suc k) bits)) first later)) (λ e. rw e later)
 
   in_rows : (k : ℕ) (bits : List Bool) → k + length bits ≤ cells_of f → IsInRows (map (cell_of_place f) (places_from k bits))

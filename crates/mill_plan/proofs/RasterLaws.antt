@@ -139,7 +139,6 @@ module _ (job : Job) (painted : List Painted) (f : Frame) (ok : IsJob job) (g : 
     (above : (c : Cell) → is_above f clearances g c ≡ true ↔ IsAllowed (in_plane f kept) (pos g) c)
     (sized : length pass ≡ cells_of f)
     (marks : (c : Cell) → InFrame f c → in_plane f swept c ≡ is_marked f.pitch (width_swept job) (cells_in f pass) c) where
-
   contour_is : (c : Cell) → in_plane f pass c ≡ true ↔ IsContour (keeps job painted) (guard job) c
   contour_is = subst (λ v. (c : Cell) → in_plane f pass c ≡ true ↔ IsContour (keeps job painted) v c) g_is (subst (λ t. (c : Cell) → in_plane f pass c ≡ true ↔ IsContour t (pos g) c) kept_is contour)
 
@@ -333,16 +332,16 @@ module _ (job : Job) (painted : List Painted) (ok : IsJob job) (g n : ℕ) (b0 b
       let framed = subst (λ (h : Frame). IsFrameOf job painted (Ok h)) (sym back) s.framed in
       let far = edge_far job painted f framed (half_low job.pitch) kept_law in
       let kept_is : in_plane f b2.kept ≡ keeps job painted = same_test (in_plane f b2.kept) (keeps job painted)
-          (subst (λ xs. (c : Cell) → in_plane f xs c ≡ keeps job painted c) (sym k.kept2) (subst (λ (h : Frame). (c : Cell) → in_plane h b0.kept c ≡ keeps job painted c) (sym back) s.kept)) in
+      (subst (λ xs. (c : Cell) → in_plane f xs c ≡ keeps job painted c) (sym k.kept2) (subst (λ (h : Frame). (c : Cell) → in_plane h b0.kept c ≡ keeps job painted c) (sym back) s.kept)) in
       let kept_same : b1.kept ≡ b2.kept = k.kept1 ∙ sym k.kept2 in
       let contour_is = subst (λ xs. (c : Cell) → in_plane f b2.pass c ≡ true ↔ IsContour (in_plane f xs) (pos g) c) kept_same
-          (subst (λ (h : Frame). (c : Cell) → in_plane h b2.pass c ≡ true ↔ IsContour (in_plane h b1.kept) (pos g) c) first contour) in
+      (subst (λ (h : Frame). (c : Cell) → in_plane h b2.pass c ≡ true ↔ IsContour (in_plane h b1.kept) (pos g) c) first contour) in
       let above_is = subst (λ xs. (c : Cell) → is_above f b2.clearances g c ≡ true ↔ IsAllowed (in_plane f xs) (pos g) c) kept_same
-          (subst (λ (h : Frame). (c : Cell) → is_above h b2.clearances g c ≡ true ↔ IsAllowed (in_plane h b1.kept) (pos g) c) first allowed) in
+      (subst (λ (h : Frame). (c : Cell) → is_above h b2.clearances g c ≡ true ↔ IsAllowed (in_plane h b1.kept) (pos g) c) first allowed) in
       let unswept = subst (λ xs. (c : Cell) → in_plane f xs c ≡ false) (sym k.swept2) (subst (λ (h : Frame). (c : Cell) → in_plane h b0.swept c ≡ false) (sym back) s.unswept) in
       let marks_is : (c : Cell) → InFrame f c → in_plane f b3.swept c ≡ is_marked f.pitch (width_swept job) (cells_in f b2.pass) c =
-          λ c inside. marks c inside ∙ ap (λ b. b || is_marked f.pitch (pos width) raster.centres.items c) (unswept c)
-          ∙ ap (λ v. is_marked f.pitch v raster.centres.items c) width_is ∙ ap (λ cs. is_marked f.pitch (width_swept job) cs c) centres in
+      λ c inside. marks c inside ∙ ap (λ b. b || is_marked f.pitch (pos width) raster.centres.items c) (unswept c)
+      ∙ ap (λ v. is_marked f.pitch v raster.centres.items c) width_is ∙ ap (λ cs. is_marked f.pitch (width_swept job) cs c) centres in
       let frame3 : b3.frame ≡ f = ap (λ (b : Grid). b.frame) rest in
       let kept3 : b3.kept ≡ b2.kept = ap (λ (b : Grid). b.kept) rest in
       let groups_at = subst (λ (h : Frame). AreGroups (λ c. not (in_plane h b3.swept c) ≡ true) (number_in h 0 b3.labels) raster.groups.items) frame3 groups in

@@ -115,7 +115,6 @@ within_near job v c ok within =
 module _ (f : Frame) (w : ℕ) (allowed visited kept : Cell → Bool) (swept : List Bool) (barrier : IsBarrier allowed visited kept)
     (outside : (c : Cell) → in_frame f c ≡ false → allowed c ≡ true) (border : (c : Cell) → IsOnBorder f c → allowed c ≡ true)
     (marked : (c : Cell) → in_frame f c ≡ true → in_plane f swept c ≡ true ↔ IsSwept w (λ v. visited v ≡ true) c) where
-
   abbrev pub IsFree : Cell → Type 0
   IsFree c = not (in_plane f swept c) ≡ true
 

@@ -75,7 +75,10 @@ fn groups_are_the_islands_of_one_class(rt: HostRuntime) -> Result<(), Fail> {
         // A corner is enough for a chain.
         ([*b"##.......", *b"#1#....2.", *b"###......"], &[1, 2, 0]),
         // Two classes: the outer one has the first kept cell.
-        ([*b"#####....", *b"#2.3#.4..", *b"#####...1"], &[1, 4, 0, 2, 3, 0]),
+        (
+            [*b"#####....", *b"#2.3#.4..", *b"#####...1"],
+            &[1, 4, 0, 2, 3, 0],
+        ),
         // One island in its class alone, and two others.
         ([*b"###......", *b"#1#.3..2.", *b"###......"], &[2, 3, 0]),
     ];

@@ -27,32 +27,59 @@ width-requires-clause-low c =
 pub sweep-requires-clause-pitch : goal.sweep-requires-clause-pitch
 sweep-requires-clause-pitch c =
     subst IsPitch (sym (stage_pitch c.args.job.now c.args.painted.now.items c.requires.job c.guard-guard.result c.in-Ok.islands c.in_ok-bench.bench c.numbered.new.bench c.traced.new.bench (record {
-      framed = c.in_ok-bench.ensures.framed; kept = c.in_ok-bench.ensures.kept; unswept = c.in_ok-bench.ensures.unswept; numbered = c.in-Ok.ensures.rest; islands = c.in-Ok.ensures.islands; traced = c.traced.ensures.rest;
+      framed = c.in_ok-bench.ensures.framed;
+      kept = c.in_ok-bench.ensures.kept;
+      unswept = c.in_ok-bench.ensures.unswept;
+      numbered = c.in-Ok.ensures.rest;
+      islands = c.in-Ok.ensures.islands;
+      traced = c.traced.ensures.rest;
     }))) c.requires.job.pitch
 
 pub sweep-requires-clause-places : goal.sweep-requires-clause-places
 sweep-requires-clause-places c =
     stage_places c.args.job.now c.args.painted.now.items c.requires.job c.guard-guard.result c.in-Ok.islands c.in_ok-bench.bench c.numbered.new.bench c.traced.new.bench (record {
-      framed = c.in_ok-bench.ensures.framed; kept = c.in_ok-bench.ensures.kept; unswept = c.in_ok-bench.ensures.unswept; numbered = c.in-Ok.ensures.rest; islands = c.in-Ok.ensures.islands; traced = c.traced.ensures.rest;
+      framed = c.in_ok-bench.ensures.framed;
+      kept = c.in_ok-bench.ensures.kept;
+      unswept = c.in_ok-bench.ensures.unswept;
+      numbered = c.in-Ok.ensures.rest;
+      islands = c.in-Ok.ensures.islands;
+      traced = c.traced.ensures.rest;
     })
 
 pub sweep-requires-clause-centres : goal.sweep-requires-clause-centres
 sweep-requires-clause-centres c =
     stage_centres c.args.job.now c.args.painted.now.items c.requires.job c.guard-guard.result c.in-Ok.islands c.in_ok-bench.bench c.numbered.new.bench c.traced.new.bench (record {
-      framed = c.in_ok-bench.ensures.framed; kept = c.in_ok-bench.ensures.kept; unswept = c.in_ok-bench.ensures.unswept; numbered = c.in-Ok.ensures.rest; islands = c.in-Ok.ensures.islands; traced = c.traced.ensures.rest;
+      framed = c.in_ok-bench.ensures.framed;
+      kept = c.in_ok-bench.ensures.kept;
+      unswept = c.in_ok-bench.ensures.unswept;
+      numbered = c.in-Ok.ensures.rest;
+      islands = c.in-Ok.ensures.islands;
+      traced = c.traced.ensures.rest;
     }) c.in_ok-centres.centres.items c.frame-frame.ensures.sized c.in_ok-centres.ensures
 
 pub grouped-requires : goal.grouped-requires
 grouped-requires c = record {
-  labels = (c.in-Ok.islands,
+  labels = (
+    c.in-Ok.islands,
     stage_labels c.args.job.now c.args.painted.now.items c.requires.job c.guard-guard.result c.in-Ok.islands c.in_ok-bench.bench c.numbered.new.bench c.traced.new.bench (record {
-      framed = c.in_ok-bench.ensures.framed; kept = c.in_ok-bench.ensures.kept; unswept = c.in_ok-bench.ensures.unswept; numbered = c.in-Ok.ensures.rest; islands = c.in-Ok.ensures.islands; traced = c.traced.ensures.rest;
-    }) c.sweep.new.bench c.sweep.ensures.rest);
+      framed = c.in_ok-bench.ensures.framed;
+      kept = c.in_ok-bench.ensures.kept;
+      unswept = c.in_ok-bench.ensures.unswept;
+      numbered = c.in-Ok.ensures.rest;
+      islands = c.in-Ok.ensures.islands;
+      traced = c.traced.ensures.rest;
+    }) c.sweep.new.bench c.sweep.ensures.rest,
+  );
 }
 
 pub returns-clause-raster : goal.returns-clause-raster
 returns-clause-raster c =
     stages_raster c.args.job.now c.args.painted.now.items c.requires.job c.guard-guard.result c.in-Ok.islands c.in_ok-bench.bench c.numbered.new.bench c.traced.new.bench (record {
-      framed = c.in_ok-bench.ensures.framed; kept = c.in_ok-bench.ensures.kept; unswept = c.in_ok-bench.ensures.unswept; numbered = c.in-Ok.ensures.rest; islands = c.in-Ok.ensures.islands; traced = c.traced.ensures.rest;
+      framed = c.in_ok-bench.ensures.framed;
+      kept = c.in_ok-bench.ensures.kept;
+      unswept = c.in_ok-bench.ensures.unswept;
+      numbered = c.in-Ok.ensures.rest;
+      islands = c.in-Ok.ensures.islands;
+      traced = c.traced.ensures.rest;
     }) c.sweep.new.bench c.width.result _ c.guard-guard.ensures.value c.width.ensures.value c.kept_law.ensures c.barrier_law.ensures c.groups_law.ensures c.frame-frame.ensures.sized c.traced.ensures.contour c.traced.ensures.allowed
     c.frame-frame.ensures.value c.in_ok-centres.ensures c.sweep.ensures.rest c.sweep.ensures.marks c.count-kept.ensures (λ i. c.in-Ok.islands) c.in-Ok.ensures.few c.in_ok-groups.ensures
