@@ -72,10 +72,11 @@ module _ (f : Frame) (free : Cell → Bool) (number class : Cell → ℕ) where
       below = λ a l. omega (arith, p.below a l);
       each = p.each;
       whole = λ d k l fr s. elim (cases_eq (place_of f d) n) as (λ _. IsNoted f number class p.places islands classes d) [
-          inl e ↦
+        | inl e ↦
             let same : c ≡ d = place_same f c d h k (place ∙ sym e) in
             subst (IsNoted f number class p.places islands classes) same (found (ap free same ∙ fr) (subst (λ (x : Cell). 0 < number x) (sym same) s))
-        | inr ne ↦ p.whole d k (omega (arith, l, ne)) fr s ];
+        | inr ne ↦ p.whole d k (omega (arith, l, ne)) fr s
+      ];
     }
 
     -- or it gets one
@@ -91,19 +92,21 @@ module _ (f : Frame) (free : Cell → Bool) (number class : Cell → ℕ) where
           same_classes = omega (arith, length_push classes (class c), len, p.same_classes);
           ascending = rising_push p.places n p.ascending (λ x m. let e : at p.places m.0 ≡ x = sym (get_or_default_zero p.places m.0 x m.1) ∙ m.2 in omega (arith, e, p.below m.0 m.1));
           below = λ a l. elim (cases_eq a (length p.places)) as (λ _. at (p.places ++ n ∷ []) a < n + 1) [
-              inl e ↦ omega (arith, ap (λ (x : ℕ). at (p.places ++ n ∷ []) x) e, new_place)
-            | inr ne ↦ let a_in : a < length p.places = omega (arith, l, ne, len) in omega (arith, at_old p.places n a a_in, p.below a a_in) ];
+            | inl e ↦ omega (arith, ap (λ (x : ℕ). at (p.places ++ n ∷ []) x) e, new_place)
+            | inr ne ↦ let a_in : a < length p.places = omega (arith, l, ne, len) in omega (arith, at_old p.places n a a_in, p.below a a_in)
+          ];
           each = λ a l. elim (cases_eq a (length p.places)) as (λ _. IsMet f free number class (at (p.places ++ n ∷ []) a) (at (islands ++ number c ∷ []) a) (at (classes ++ class c ∷ []) a)) [
-              inl e ↦
+            | inl e ↦
                 met_as n (number c) (class c) (at (p.places ++ n ∷ []) a) (at (islands ++ number c ∷ []) a) (at (classes ++ class c ∷ []) a) (met_here c n h place fr some)
                 (ap (λ (x : ℕ). at (p.places ++ n ∷ []) x) e ∙ new_place) (ap (λ (x : ℕ). at (islands ++ number c ∷ []) x) e ∙ new_island)
                 (ap (λ (x : ℕ). at (classes ++ class c ∷ []) x) e ∙ new_class)
             | inr ne ↦
                 let a_in : a < length p.places = omega (arith, l, ne, len) in
                 met_as (at p.places a) (at islands a) (at classes a) (at (p.places ++ n ∷ []) a) (at (islands ++ number c ∷ []) a) (at (classes ++ class c ∷ []) a) (p.each a a_in)
-                (at_old p.places n a a_in) (at_old islands (number c) a (omega (arith, a_in, p.same_islands))) (at_old classes (class c) a (omega (arith, a_in, p.same_classes))) ];
+                (at_old p.places n a a_in) (at_old islands (number c) a (omega (arith, a_in, p.same_islands))) (at_old classes (class c) a (omega (arith, a_in, p.same_classes)))
+          ];
           whole = λ d k l fr_d s. elim (cases_eq (place_of f d) n) as (λ _. IsNoted f number class (p.places ++ n ∷ []) (islands ++ number c ∷ []) (classes ++ class c ∷ []) d) [
-              inl e ↦
+            | inl e ↦
                 let same : c ≡ d = place_same f c d h k (place ∙ sym e) in
                 record {
                   at = length p.places;
@@ -120,7 +123,8 @@ module _ (f : Frame) (free : Cell → Bool) (number class : Cell → ℕ) where
                   early = omega (arith, at_old p.places n q.at q.at_in, q.early);
                   island = at_old islands (number c) q.at (omega (arith, q.at_in, p.same_islands)) ∙ q.island;
                   of_class = at_old classes (class c) q.at (omega (arith, q.at_in, p.same_classes)) ∙ q.of_class;
-                } ];
+                }
+          ];
         }
 
   -- the meetings before place n, with the class that each island met last
@@ -147,14 +151,14 @@ module _ (f : Frame) (free : Cell → Bool) (number class : Cell → ℕ) where
       → IsCollecting ms' last' (n + 1)
   collecting_on ms ms' last last' n i k c p h place small class_is free_island other_island some_class skipped added =
       elim (cases_eq i 0) as (λ _. IsCollecting ms' last' (n + 1)) [
-          inl none ↦
+        | inl none ↦
             let e = skipped (inl none) in
             kept e.0 e.1 (met_skip (islands_of ms) (classes_of ms) n p.met c h place (λ fr s. absurd (omega (arith, s, none, free_island fr))))
         | inr some ↦
             let fr : free c ≡ true = by_bool (free c) (λ e. e) (λ e. absurd (some (other_island e))) in
             let number_is : i ≡ number c = free_island fr in
             elim (cases_eq (at last i) k) as (λ _. IsCollecting ms' last' (n + 1)) [
-                inl again ↦
+              | inl again ↦
                   let e = skipped (inr again) in
                   let q = p.last_met i (omega (arith, again, class_is, some_class fr)) in
                   let a_in : q.0 < length p.met.places = omega (arith, q.1.0, islands_len ms, p.met.same_islands) in
@@ -165,7 +169,9 @@ module _ (f : Frame) (free : Cell → Bool) (number class : Cell → ℕ) where
                     island = q.1.1 ∙ number_is;
                     of_class = q.1.2 ∙ again ∙ class_is;
                   }))
-              | inr new ↦ let e = added some new in pushed fr number_is some e.0 e.1 ] ]
+              | inr new ↦ let e = added some new in pushed fr number_is some e.0 e.1
+            ]
+      ]
     where
       kept : ms' ≡ ms → last' ≡ last → AreMeetings f free number class (islands_of ms) (classes_of ms) (n + 1) → IsCollecting ms' last' (n + 1)
       kept e g m = subst (λ (x : List Meeting). IsCollecting x last' (n + 1)) (sym e) (subst (λ (x : List ℕ). IsCollecting ms x (n + 1)) (sym g) (record { met = m; len = p.len; last_met = p.last_met }))
@@ -179,25 +185,25 @@ module _ (f : Frame) (free : Cell → Bool) (number class : Cell → ℕ) where
           let new_class : at (classes_of ms') (length ms) ≡ k = ap (λ (x : List ℕ). at x (length ms)) classes ∙ at_new (classes_of ms) k (length ms) (sym (classes_len ms)) in
           record {
             met =
-              subst (λ (x : List ℕ). AreMeetings f free number class x (classes_of ms') (n + 1)) (ap (λ (v : ℕ). islands_of ms ++ v ∷ []) (sym number_is) ∙ sym islands)
-              (subst (λ (x : List ℕ). AreMeetings f free number class (islands_of ms ++ number c ∷ []) x (n + 1)) (ap (λ (v : ℕ). classes_of ms ++ v ∷ []) (sym class_is) ∙ sym classes)
-              (met_push (islands_of ms) (classes_of ms) n p.met c h place fr (omega (arith, number_is, some))));
+                subst (λ (x : List ℕ). AreMeetings f free number class x (classes_of ms') (n + 1)) (ap (λ (v : ℕ). islands_of ms ++ v ∷ []) (sym number_is) ∙ sym islands)
+                (subst (λ (x : List ℕ). AreMeetings f free number class (islands_of ms ++ number c ∷ []) x (n + 1)) (ap (λ (v : ℕ). classes_of ms ++ v ∷ []) (sym class_is) ∙ sym classes)
+                (met_push (islands_of ms) (classes_of ms) n p.met c h place fr (omega (arith, number_is, some))));
             len = ap length g ∙ length-set last i k ∙ p.len;
             last_met = λ u s. elim (cases_eq u i) as (λ _. (a : ℕ) × ((a < length ms') × (at (islands_of ms') a ≡ u) × (at (classes_of ms') a ≡ at last' u))) [
-                inl same ↦
+              | inl same ↦
                   let mark : at last' u ≡ k = ap (λ (x : List ℕ). at x u) g ∙ ap (λ (x : ℕ). at (set last i k) x) same ∙ get_or-set_same last i k 0 (omega (arith, small, p.len)) in
                   (length ms, (omega (arith, more), new_island ∙ sym same, new_class ∙ sym mark))
               | inr ne ↦
                   let mark : at last' u ≡ at last u = ap (λ (x : List ℕ). at x u) g ∙ get_or-set_other last i u k 0 ne in
-                  let q = p.last_met u (omega (arith, s, mark)) in
-                  (
+                  let q = p.last_met u (omega (arith, s, mark)) in (
                     q.0,
                     (
                       omega (arith, q.1.0, more),
                       ap (λ (x : List ℕ). at x q.0) islands ∙ at_old (islands_of ms) i q.0 (omega (arith, q.1.0, islands_len ms)) ∙ q.1.1,
                       ap (λ (x : List ℕ). at x q.0) classes ∙ at_old (classes_of ms) k q.0 (omega (arith, q.1.0, classes_len ms)) ∙ q.1.2 ∙ sym mark,
                     ),
-                  ) ];
+                  )
+            ];
           }
 
 at_true : {X : Type 0} (t : Bool) (x y : X) → t ≡ true → cond t x y ≡ x

@@ -68,8 +68,9 @@ module _ (f : Frame) (free : Cell → Bool) (number class : Cell → ℕ) (islan
   place_rises : (a b : ℕ) → a ≤ b → b < length p.places → at p.places a ≤ at p.places b
   place_rises a b l b_in =
       elim (cases_eq a b) as (λ _. at p.places a ≤ at p.places b) [
-          inl e ↦ omega (arith, ap (at p.places) e)
-        | inr ne ↦ omega (arith, rise p.places p.ascending a b (omega (arith, l, ne)) b_in) ]
+        | inl e ↦ omega (arith, ap (at p.places) e)
+        | inr ne ↦ omega (arith, rise p.places p.ascending a b (omega (arith, l, ne)) b_in)
+      ]
 
   module _ (q : IsClasses free class) (all : n ≡ cells_of f) (numbered : (c : Cell) → 0 < number c → in_frame f c ≡ true) where
     noted : (c : Cell) → 0 < number c → free c ≡ true → IsNoted f number class p.places islands classes c
@@ -90,19 +91,19 @@ module _ (f : Frame) (free : Cell → Bool) (number class : Cell → ℕ) (islan
           island = omega (arith, m.number_is, g.island);
           free_there = m.free_there;
           earliest = λ c s j b.
-            let r = noted c s (linked_free (home first) c j) in
-            let least = g.earliest r.at (island_there c s j) (class_same c s j) in
-            let up = place_rises first r.at least r.at_in in
-            let less = before_less f c (home first) (inside f c (numbered c s)) (inside f (home first) m.inside) b in
-            omega (arith, up, r.early, less, m.place_is);
+              let r = noted c s (linked_free (home first) c j) in
+              let least = g.earliest r.at (island_there c s j) (class_same c s j) in
+              let up = place_rises first r.at least r.at_in in
+              let less = before_less f c (home first) (inside f c (numbered c s)) (inside f (home first) m.inside) b in
+              omega (arith, up, r.early, less, m.place_is);
           ascending = g.ascending;
           sound = λ u k.
-            let b = g.sound u k in
-            let mb = met b.0 b.1.0 in
-            (home b.0, (omega (arith, mb.number_is, b.1.0), q.same (home first) (home b.0) m.free_there (m.class_is ∙ sym b.1.1 ∙ sym mb.class_is), mb.number_is ∙ b.1.2));
+              let b = g.sound u k in
+              let mb = met b.0 b.1.0 in
+              (home b.0, (omega (arith, mb.number_is, b.1.0), q.same (home first) (home b.0) m.free_there (m.class_is ∙ sym b.1.1 ∙ sym mb.class_is), mb.number_is ∙ b.1.2));
           whole = λ c s j.
-            let r = noted c s (linked_free (home first) c j) in
-            subst (Contains group) r.island (g.whole r.at (island_there c s j) (class_same c s j));
+              let r = noted c s (linked_free (home first) c j) in
+              subst (Contains group) r.island (g.whole r.at (island_there c s j) (class_same c s j));
           two = g.two;
         }
 
@@ -121,37 +122,37 @@ module _ (f : Frame) (free : Cell → Bool) (number class : Cell → ℕ) (islan
           firsts = cells;
           same_length = length-map found (λ (x : Found). home x.first) ∙ sym len;
           each = λ k d l.
-            let l' : k < length found = omega (arith, l, len) in
-            let r = pick found k l' in
-            subst (λ (c : Cell). IsGroup (λ x. free x ≡ true) number c (get_or groups k [])) (sym (first_at k d l'))
-            (subst (IsGroup (λ x. free x ≡ true) number (home r.group.first)) (sym (list_at k l')) (one_group r.group.first r.group.islands (found_at k l')));
+              let l' : k < length found = omega (arith, l, len) in
+              let r = pick found k l' in
+              subst (λ (c : Cell). IsGroup (λ x. free x ≡ true) number c (get_or groups k [])) (sym (first_at k d l'))
+              (subst (IsGroup (λ x. free x ≡ true) number (home r.group.first)) (sym (list_at k l')) (one_group r.group.first r.group.islands (found_at k l')));
           order = λ k d l.
-            let lk : k < length found = omega (arith, l, len) in
-            let ln : k + 1 < length found = omega (arith, l, len) in
-            let a = pick found k lk in
-            let b = pick found (k + 1) ln in
-            let less : a.group.first < b.group.first =
-            subst (λ (x : Found). x.first < b.group.first) (a.is a.group) (subst (λ (x : Found). (get_or found k a.group).first < x.first) (b.is a.group) (g.rising k a.group ln)) in
-            subst (λ (c : Cell). IsBefore c (get_or (map (λ (x : Found). home x.first) found) (k + 1) d)) (sym (first_at k d lk))
-            (subst (IsBefore (home a.group.first)) (sym (first_at (k + 1) d ln)) (home_before a.group.first b.group.first (found_at k lk).island (found_at (k + 1) ln).island less));
+              let lk : k < length found = omega (arith, l, len) in
+              let ln : k + 1 < length found = omega (arith, l, len) in
+              let a = pick found k lk in
+              let b = pick found (k + 1) ln in
+              let less : a.group.first < b.group.first =
+              subst (λ (x : Found). x.first < b.group.first) (a.is a.group) (subst (λ (x : Found). (get_or found k a.group).first < x.first) (b.is a.group) (g.rising k a.group ln)) in
+              subst (λ (c : Cell). IsBefore c (get_or (map (λ (x : Found). home x.first) found) (k + 1) d)) (sym (first_at k d lk))
+              (subst (IsBefore (home a.group.first)) (sym (first_at (k + 1) d ln)) (home_before a.group.first b.group.first (found_at k lk).island (found_at (k + 1) ln).island less));
           all = λ a b sa sb ne j.
-            let ra = noted a sa (chain_start (λ x. free x ≡ true) a b j.steps j.chain) in
-            let rb = noted b sb (linked_free a b j) in
-            let ia : 0 < at islands ra.at = omega (arith, sa, ra.island) in
-            let ib : 0 < at islands rb.at = omega (arith, sb, rb.island) in
-            let ma = met ra.at ia in
-            let ca : 0 < at classes ra.at = omega (arith, q.some (home ra.at) (free_home ra.at ma.free_there), class_home ra.at (at classes ra.at) ma.class_is) in
-            let same : at classes rb.at ≡ at classes ra.at = rb.of_class ∙ sym (q.whole a b j) ∙ sym ra.of_class in
-            let r = g.whole ra.at rb.at ia ib (λ z. ne (sym ra.island ∙ z ∙ rb.island)) ca same in
-            let k = r.1.0 in
-            let l : k.0 < length found = k.1 in
-            let t = pick found k.0 l in
-            let e : t.group ≡ r.0 = sym (t.is r.0) ∙ k.2 in
-            let one = found_at k.0 l in
-            let m = met t.group.first one.island in
-            let there : class (home t.group.first) ≡ class a = class_home t.group.first (at classes t.group.first) m.class_is ∙ ap (λ (x : Found). at classes x.first) e ∙ r.1.1 ∙ ra.of_class in
-            let link = q.same (home t.group.first) a (free_home t.group.first m.free_there) there in
-            (k.0, (omega (arith, l, len), λ d. subst (λ (c : Cell). IsLinked free c a) (sym (first_at k.0 d l)) link));
+              let ra = noted a sa (chain_start (λ x. free x ≡ true) a b j.steps j.chain) in
+              let rb = noted b sb (linked_free a b j) in
+              let ia : 0 < at islands ra.at = omega (arith, sa, ra.island) in
+              let ib : 0 < at islands rb.at = omega (arith, sb, rb.island) in
+              let ma = met ra.at ia in
+              let ca : 0 < at classes ra.at = omega (arith, q.some (home ra.at) (free_home ra.at ma.free_there), class_home ra.at (at classes ra.at) ma.class_is) in
+              let same : at classes rb.at ≡ at classes ra.at = rb.of_class ∙ sym (q.whole a b j) ∙ sym ra.of_class in
+              let r = g.whole ra.at rb.at ia ib (λ z. ne (sym ra.island ∙ z ∙ rb.island)) ca same in
+              let k = r.1.0 in
+              let l : k.0 < length found = k.1 in
+              let t = pick found k.0 l in
+              let e : t.group ≡ r.0 = sym (t.is r.0) ∙ k.2 in
+              let one = found_at k.0 l in
+              let m = met t.group.first one.island in
+              let there : class (home t.group.first) ≡ class a = class_home t.group.first (at classes t.group.first) m.class_is ∙ ap (λ (x : Found). at classes x.first) e ∙ r.1.1 ∙ ra.of_class in
+              let link = q.same (home t.group.first) a (free_home t.group.first m.free_there) there in
+              (k.0, (omega (arith, l, len), λ d. subst (λ (c : Cell). IsLinked free c a) (sym (first_at k.0 d l)) link));
         }
 
 -- a cell that has an island lies in the frame

@@ -23,10 +23,11 @@ pub before_less : (f : Frame) (c d : Cell) → InFrame f c → InFrame f d → I
 unfolding place_of
 before_less f c d h k s =
     elim s as (λ _. row_of f c * f.width + column_of f c < row_of f d * f.width + column_of f d) [
-      inl l ↦ row_less f.width (row_of f c) (row_of f d) (column_of f c) (column_of f d) (less c.j d.j f.j0 h.row k.row l) (column_below f c h)
-    | inr r ↦
-        let e : row_of f c * f.width ≡ row_of f d * f.width = ap (λ (v : ℤ). unsigned_abs (v -ℤ f.j0) * f.width) r.0 in
-        omega (arith, e, less c.i d.i f.i0 h.column k.column r.1) ]
+      | inl l ↦ row_less f.width (row_of f c) (row_of f d) (column_of f c) (column_of f d) (less c.j d.j f.j0 h.row k.row l) (column_below f c h)
+      | inr r ↦
+          let e : row_of f c * f.width ≡ row_of f d * f.width = ap (λ (v : ℤ). unsigned_abs (v -ℤ f.j0) * f.width) r.0 in
+          omega (arith, e, less c.i d.i f.i0 h.column k.column r.1)
+    ]
   where
     less : (i i' i0 : ℤ) {w : ℕ} {v : ℕ} → IsBetween i i0 w → IsBetween i' i0 v → i <ℤ i' → unsigned_abs (i -ℤ i0) < unsigned_abs (i' -ℤ i0)
     less i i' i0 p q l = omega (arith, ints)
@@ -35,14 +36,16 @@ pub less_before : (f : Frame) (c d : Cell) → InFrame f c → InFrame f d → p
 unfolding place_of
 less_before f c d h k l =
     elim (cases_lt (row_of f c) (row_of f d)) as (λ _. IsBefore c d) [
-      inl up ↦ inl (more c.j d.j f.j0 h.row k.row up)
-    | inr past ↦
-        elim (cases_lt (row_of f d) (row_of f c)) as (λ _. IsBefore c d) [
-          inl down ↦ absurd (let m = row_less f.width (row_of f d) (row_of f c) (column_of f d) (column_of f c) down (column_below f d k) in omega (arith, m, l))
-        | inr level ↦
-            let e : row_of f c ≡ row_of f d = omega (arith, past, level) in
-            let s : row_of f c * f.width ≡ row_of f d * f.width = ap (λ (n : ℕ). n * f.width) e in
-            inr (same c.j d.j f.j0 h.row k.row e, more c.i d.i f.i0 h.column k.column (omega (arith, s, l))) ] ]
+      | inl up ↦ inl (more c.j d.j f.j0 h.row k.row up)
+      | inr past ↦
+          elim (cases_lt (row_of f d) (row_of f c)) as (λ _. IsBefore c d) [
+            | inl down ↦ absurd (let m = row_less f.width (row_of f d) (row_of f c) (column_of f d) (column_of f c) down (column_below f d k) in omega (arith, m, l))
+            | inr level ↦
+                let e : row_of f c ≡ row_of f d = omega (arith, past, level) in
+                let s : row_of f c * f.width ≡ row_of f d * f.width = ap (λ (n : ℕ). n * f.width) e in
+                inr (same c.j d.j f.j0 h.row k.row e, more c.i d.i f.i0 h.column k.column (omega (arith, s, l)))
+          ]
+    ]
   where
     more : (i i' i0 : ℤ) {w : ℕ} {v : ℕ} → IsBetween i i0 w → IsBetween i' i0 v → unsigned_abs (i -ℤ i0) < unsigned_abs (i' -ℤ i0) → i <ℤ i'
     more i i' i0 p q l = omega (arith, ints)

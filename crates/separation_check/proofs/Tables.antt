@@ -29,21 +29,25 @@ table_on number class k table n p inside some own =
     let here : is_on (set table u true) u ≡ true = get_or-set_same table u true false inside in
     record {
       sound = λ x on. elim (cases_eq x u) as (λ _. (a : ℕ) × (0 < at number a × at class a ≡ k × at number a ≡ x)) [
-        inl e ↦ (n, (some, own, sym e))
-      | inr ne ↦ p.sound x (sym (get_or-set_other table u x true false ne) ∙ on) ];
+        | inl e ↦ (n, (some, own, sym e))
+        | inr ne ↦ p.sound x (sym (get_or-set_other table u x true false ne) ∙ on)
+      ];
       whole = λ a l s c. elim (cases_eq (at number a) u) as (λ _. is_on (set table u true) (at number a) ≡ true) [
-        inl e ↦ ap (is_on (set table u true)) e ∙ here
-      | inr ne ↦ elim (cases_eq a n) as (λ _. is_on (set table u true) (at number a) ≡ true) [
-          inl e ↦ absurd (ne (ap (at number) e))
-        | inr other ↦ get_or-set_other table u (at number a) true false ne ∙ p.whole a (omega arith) s c ] ];
+        | inl e ↦ ap (is_on (set table u true)) e ∙ here
+        | inr ne ↦ elim (cases_eq a n) as (λ _. is_on (set table u true) (at number a) ≡ true) [
+          | inl e ↦ absurd (ne (ap (at number) e))
+          | inr other ↦ get_or-set_other table u (at number a) true false ne ∙ p.whole a (omega arith) s c
+        ]
+      ];
     }
 
 pub table_off : (number class : List ℕ) (k : ℕ) (table : List Bool) (n : ℕ) → IsTable number class k table n → (0 < at number n → at class n ≢ k) → IsTable number class k table (n + 1)
 table_off number class k table n p none = record {
   sound = p.sound;
   whole = λ a l s c. elim (cases_eq a n) as (λ _. is_on table (at number a) ≡ true) [
-    inl e ↦ absurd (none (subst (λ (x : ℕ). 0 < at number x) e s) (ap (at class) (sym e) ∙ c))
-  | inr other ↦ p.whole a (omega arith) s c ];
+    | inl e ↦ absurd (none (subst (λ (x : ℕ). 0 < at number x) e s) (ap (at class) (sym e) ∙ c))
+    | inr other ↦ p.whole a (omega arith) s c
+  ];
 }
 
 -- a number above all others goes at the end
@@ -53,15 +57,16 @@ rising_push xs y p above k l =
     let k_in : k < length xs = omega (arith, l, len) in
     let at_k : get_or (xs ++ y ∷ []) k 0 ≡ get_or xs k 0 = get_or-append xs (y ∷ []) 0 k k_in in
     elim (cases_eq (k + 1) (length xs)) as (λ _. get_or (xs ++ y ∷ []) k 0 < get_or (xs ++ y ∷ []) (k + 1) 0) [
-      inl e ↦
-        let last : get_or (xs ++ y ∷ []) (k + 1) 0 ≡ y = ap (λ (i : ℕ). get_or (xs ++ y ∷ []) i 0) e ∙ get_or-append_seam xs y [] 0 in
-        let less : get_or xs k 0 < y = above (get_or xs k 0) (k, k_in, get_or_default_zero xs k (get_or xs k 0) k_in) in
-        omega (arith, at_k, last, less)
-    | inr ne ↦
-        let next_in : k + 1 < length xs = omega (arith, ne, k_in) in
-        let at_next : get_or (xs ++ y ∷ []) (k + 1) 0 ≡ get_or xs (k + 1) 0 = get_or-append xs (y ∷ []) 0 (k + 1) next_in in
-        let less : get_or xs k 0 < get_or xs (k + 1) 0 = p k next_in in
-        omega (arith, at_k, at_next, less) ]
+      | inl e ↦
+          let last : get_or (xs ++ y ∷ []) (k + 1) 0 ≡ y = ap (λ (i : ℕ). get_or (xs ++ y ∷ []) i 0) e ∙ get_or-append_seam xs y [] 0 in
+          let less : get_or xs k 0 < y = above (get_or xs k 0) (k, k_in, get_or_default_zero xs k (get_or xs k 0) k_in) in
+          omega (arith, at_k, last, less)
+      | inr ne ↦
+          let next_in : k + 1 < length xs = omega (arith, ne, k_in) in
+          let at_next : get_or (xs ++ y ∷ []) (k + 1) 0 ≡ get_or xs (k + 1) 0 = get_or-append xs (y ∷ []) 0 (k + 1) next_in in
+          let less : get_or xs k 0 < get_or xs (k + 1) 0 = p k next_in in
+          omega (arith, at_k, at_next, less)
+    ]
 
 pub none_in : (x : ℕ) → Contains [] x → ⊥
 none_in x m = omega (arith, m.1)
@@ -77,11 +82,13 @@ pub listed_on : (table : List Bool) (n : ℕ) (xs xs' : List ℕ) → IsListed t
 listed_on table n xs xs' p on e = subst (IsListed table (n + 1)) (sym e) (record {
   ascending = rising_push xs n p.ascending (λ x m. (p.sound x m).0);
   sound = λ u m. elim (Contains-push_cases xs n u m) as (λ _. u < n + 1 × is_on table u ≡ true) [
-    inl was ↦ let s = p.sound u was in (omega (arith, s.0), s.1)
-  | inr here ↦ (omega (arith, here), ap (is_on table) (sym here) ∙ on) ];
+    | inl was ↦ let s = p.sound u was in (omega (arith, s.0), s.1)
+    | inr here ↦ (omega (arith, here), ap (is_on table) (sym here) ∙ on)
+  ];
   whole = λ u s l k. elim (cases_eq u n) as (λ _. Contains (xs ++ n ∷ []) u) [
-    inl here ↦ subst (Contains (xs ++ n ∷ [])) (sym here) (Contains-push xs n)
-  | inr other ↦ Contains-append_left xs (n ∷ []) u (p.whole u s (omega arith) k) ];
+    | inl here ↦ subst (Contains (xs ++ n ∷ [])) (sym here) (Contains-push xs n)
+    | inr other ↦ Contains-append_left xs (n ∷ []) u (p.whole u s (omega arith) k)
+  ];
 })
 
 pub listed_off : (table : List Bool) (n : ℕ) (xs : List ℕ) → IsListed table n xs → (0 < n → is_on table n ≡ false) → IsListed table (n + 1) xs
@@ -89,8 +96,9 @@ listed_off table n xs p none = record {
   ascending = p.ascending;
   sound = λ u m. let s = p.sound u m in (omega (arith, s.0), s.1);
   whole = λ u s l k. elim (cases_eq u n) as (λ _. Contains xs u) [
-    inl here ↦ absurd (false≢true (sym (none (subst (λ (x : ℕ). 0 < x) here s)) ∙ ap (is_on table) (sym here) ∙ k))
-  | inr other ↦ p.whole u s (omega arith) k ];
+    | inl here ↦ absurd (false≢true (sym (none (subst (λ (x : ℕ). 0 < x) here s)) ∙ ap (is_on table) (sym here) ∙ k))
+    | inr other ↦ p.whole u s (omega arith) k
+  ];
 }
 
 -- the walk over the places, with its table of classes
@@ -115,17 +123,20 @@ finding_begun number class seen firsts m e f = subst (λ (x : List ℕ). IsFindi
 })
 
 pub finding_on : (number class : List ℕ) (seen : List Bool) (firsts firsts' : List ℕ) (n : ℕ) → IsFinding number class seen firsts n → 0 < at number n → 0 < at class n → at class n < length seen → is_on seen (at class n) ≡ false
-  → firsts' ≡ firsts ++ n ∷ [] → IsFinding number class (set seen (at class n) true) firsts' (n + 1)
+    → firsts' ≡ firsts ++ n ∷ [] → IsFinding number class (set seen (at class n) true) firsts' (n + 1)
 finding_on number class seen firsts firsts' n p some open_there inside new e = subst (λ (x : List ℕ). IsFinding number class (set seen (at class n) true) x (n + 1)) (sym e) (record {
   marks = record {
     sound = λ x on. elim (cases_eq x k) as (λ _. (b : ℕ) × (b < n + 1 × 0 < at number b × at class b ≡ x)) [
-      inl here ↦ (n, (omega arith, some, sym here))
-    | inr ne ↦ let q = p.marks.sound x (sym (get_or-set_other seen k x true false ne) ∙ on) in (q.0, (omega (arith, q.1.0), q.1.1, q.1.2)) ];
+      | inl here ↦ (n, (omega arith, some, sym here))
+      | inr ne ↦ let q = p.marks.sound x (sym (get_or-set_other seen k x true false ne) ∙ on) in (q.0, (omega (arith, q.1.0), q.1.1, q.1.2))
+    ];
     whole = λ b l s o. elim (cases_eq (at class b) k) as (λ _. is_on (set seen k true) (at class b) ≡ true) [
-      inl same ↦ ap (is_on (set seen k true)) same ∙ get_or-set_same seen k true false inside
-    | inr ne ↦ elim (cases_eq b n) as (λ _. is_on (set seen k true) (at class b) ≡ true) [
-        inl here ↦ absurd (ne (ap (at class) here))
-      | inr other ↦ get_or-set_other seen k (at class b) true false ne ∙ p.marks.whole b (omega arith) s o ] ];
+      | inl same ↦ ap (is_on (set seen k true)) same ∙ get_or-set_same seen k true false inside
+      | inr ne ↦ elim (cases_eq b n) as (λ _. is_on (set seen k true) (at class b) ≡ true) [
+        | inl here ↦ absurd (ne (ap (at class) here))
+        | inr other ↦ get_or-set_other seen k (at class b) true false ne ∙ p.marks.whole b (omega arith) s o
+      ]
+    ];
   };
   found = record {
     ascending = rising_push firsts n f.ascending f.below;
@@ -133,15 +144,18 @@ finding_on number class seen firsts firsts' n p some open_there inside new e = s
     island = λ a m. elim (Contains-push_cases firsts n a m) as (λ _. 0 < at number a) [ inl was ↦ f.island a was | inr here ↦ subst (λ (x : ℕ). 0 < at number x) here some ];
     in_class = λ a m. elim (Contains-push_cases firsts n a m) as (λ _. 0 < at class a) [ inl was ↦ f.in_class a was | inr here ↦ subst (λ (x : ℕ). 0 < at class x) here open_there ];
     earliest = λ a b m s c. elim (Contains-push_cases firsts n a m) as (λ _. a ≤ b) [
-      inl was ↦ f.earliest a b was s c
-    | inr here ↦ elim (cases_lt b n) as (λ _. a ≤ b) [
-        inl less ↦
-          let same : at class b ≡ k = c ∙ ap (at class) (sym here) in
-          absurd (false≢true (sym new ∙ ap (is_on seen) (sym same) ∙ p.marks.whole b less s (subst (λ (x : ℕ). 0 < x) (sym same) open_there)))
-      | inr late ↦ omega (arith, late, here) ] ];
+      | inl was ↦ f.earliest a b was s c
+      | inr here ↦ elim (cases_lt b n) as (λ _. a ≤ b) [
+        | inl less ↦
+            let same : at class b ≡ k = c ∙ ap (at class) (sym here) in
+            absurd (false≢true (sym new ∙ ap (is_on seen) (sym same) ∙ p.marks.whole b less s (subst (λ (x : ℕ). 0 < x) (sym same) open_there)))
+        | inr late ↦ omega (arith, late, here)
+      ]
+    ];
     whole = λ b l s o. elim (cases_eq b n) as (λ _. (a : ℕ) × (Contains (firsts ++ n ∷ []) a × at class a ≡ at class b)) [
-      inl here ↦ (n, (Contains-push firsts n, ap (at class) (sym here)))
-    | inr other ↦ let q = f.whole b (omega arith) s o in (q.0, (Contains-append_left firsts (n ∷ []) q.0 q.1.0, q.1.1)) ];
+      | inl here ↦ (n, (Contains-push firsts n, ap (at class) (sym here)))
+      | inr other ↦ let q = f.whole b (omega arith) s o in (q.0, (Contains-append_left firsts (n ∷ []) q.0 q.1.0, q.1.1))
+    ];
   };
 })
   where
@@ -156,8 +170,9 @@ finding_off number class seen firsts n p none = record {
   marks = record {
     sound = λ x on. let q = p.marks.sound x on in (q.0, (omega (arith, q.1.0), q.1.1, q.1.2));
     whole = λ b l s o. elim (cases_eq b n) as (λ _. is_on seen (at class b) ≡ true) [
-      inl here ↦ ap (λ (x : ℕ). is_on seen (at class x)) here ∙ none (subst (λ (x : ℕ). 0 < at number x) here s) (subst (λ (x : ℕ). 0 < at class x) here o)
-    | inr other ↦ p.marks.whole b (omega arith) s o ];
+      | inl here ↦ ap (λ (x : ℕ). is_on seen (at class x)) here ∙ none (subst (λ (x : ℕ). 0 < at number x) here s) (subst (λ (x : ℕ). 0 < at class x) here o)
+      | inr other ↦ p.marks.whole b (omega arith) s o
+    ];
   };
   found = record {
     ascending = p.found.ascending;
@@ -166,11 +181,12 @@ finding_off number class seen firsts n p none = record {
     in_class = p.found.in_class;
     earliest = p.found.earliest;
     whole = λ b l s o. elim (cases_eq b n) as (λ _. (a : ℕ) × (Contains firsts a × at class a ≡ at class b)) [
-      inl here ↦
-        let q = p.marks.sound (at class n) (none (subst (λ (x : ℕ). 0 < at number x) here s) (subst (λ (x : ℕ). 0 < at class x) here o)) in
-        let r = p.found.whole q.0 q.1.0 q.1.1 (subst (λ (x : ℕ). 0 < x) (sym (q.1.2 ∙ ap (at class) (sym here))) o) in
-        (r.0, (r.1.0, r.1.1 ∙ q.1.2 ∙ ap (at class) (sym here)))
-    | inr other ↦ p.found.whole b (omega arith) s o ];
+      | inl here ↦
+          let q = p.marks.sound (at class n) (none (subst (λ (x : ℕ). 0 < at number x) here s) (subst (λ (x : ℕ). 0 < at class x) here o)) in
+          let r = p.found.whole q.0 q.1.0 q.1.1 (subst (λ (x : ℕ). 0 < x) (sym (q.1.2 ∙ ap (at class) (sym here))) o) in
+          (r.0, (r.1.0, r.1.1 ∙ q.1.2 ∙ ap (at class) (sym here)))
+      | inr other ↦ p.found.whole b (omega arith) s o
+    ];
   };
 }
 
@@ -178,11 +194,12 @@ finding_off number class seen firsts n p none = record {
 two_apart : (xs : List ℕ) (x y : ℕ) → Contains xs x → Contains xs y → x ≢ y → 2 ≤ length xs
 two_apart xs x y p q ne =
     elim (cases_eq p.0 q.0) as (λ _. 2 ≤ length xs) [
-      inl e ↦
-        let u : get_or xs p.0 0 ≡ x = sym (get_or_default_zero xs p.0 x p.1) ∙ p.2 in
-        let v : get_or xs q.0 0 ≡ y = sym (get_or_default_zero xs q.0 y q.1) ∙ q.2 in
-        absurd (ne (sym u ∙ ap (λ (i : ℕ). get_or xs i 0) e ∙ v))
-    | inr apart ↦ omega (arith, p.1, q.1, apart) ]
+      | inl e ↦
+          let u : get_or xs p.0 0 ≡ x = sym (get_or_default_zero xs p.0 x p.1) ∙ p.2 in
+          let v : get_or xs q.0 0 ≡ y = sym (get_or_default_zero xs q.0 y q.1) ∙ q.2 in
+          absurd (ne (sym u ∙ ap (λ (i : ℕ). get_or xs i 0) e ∙ v))
+      | inr apart ↦ omega (arith, p.1, q.1, apart)
+    ]
 
 -- the groups of the first i classes
 pub record IsGrouping (number class firsts : List ℕ) (groups : List Found) (i : ℕ) : Type 0 where
@@ -190,7 +207,7 @@ pub record IsGrouping (number class firsts : List ℕ) (groups : List Found) (i 
   pub early : (g : Found) → Contains groups g → (j : ℕ) × (j < i × at firsts j ≡ g.first)
   pub rising : IsRising groups
   pub whole : (j a b : ℕ) → j < i → 0 < at number a → 0 < at number b → at number a ≢ at number b → at class a ≡ at class (at firsts j) → at class b ≡ at class (at firsts j)
-    → (g : Found) × (Contains groups g × g.first ≡ at firsts j)
+      → (g : Found) × (Contains groups g × g.first ≡ at firsts j)
 
 none_there : (g : Found) → Contains [] g → ⊥
 none_there g m = omega (arith, m.1)
@@ -252,33 +269,37 @@ module _ (number class firsts : List ℕ) (n : ℕ) (f : AreFirsts number class 
   pub grouping_on : (g : Found) (groups' : List Found) → 2 ≤ length xs → g.first ≡ at firsts i → g.islands ≡ xs → groups' ≡ groups ++ g ∷ [] → IsGrouping number class firsts groups' (i + 1)
   grouping_on g groups' two e k same = subst (λ (x : List Found). IsGrouping number class firsts x (i + 1)) (sym same) (record {
     each = λ d c. elim (Contains-push_cases groups g d c) as (λ _. IsFound number class d.first d.islands) [
-      inl was ↦ p.each d was
-    | inr here ↦ subst (λ (x : Found). IsFound number class x.first x.islands) here
-        (subst (λ (x : ℕ). IsFound number class x g.islands) (sym e) (subst (IsFound number class (at firsts i)) (sym k) (a_group two))) ];
+      | inl was ↦ p.each d was
+      | inr here ↦ subst (λ (x : Found). IsFound number class x.first x.islands) here
+          (subst (λ (x : ℕ). IsFound number class x g.islands) (sym e) (subst (IsFound number class (at firsts i)) (sym k) (a_group two)))
+    ];
     early = λ d c. elim (Contains-push_cases groups g d c) as (λ _. (j : ℕ) × (j < i + 1 × at firsts j ≡ d.first)) [
-      inl was ↦ let r = p.early d was in (r.0, (omega (arith, r.1.0), r.1.1))
-    | inr here ↦ (i, (omega arith, sym e ∙ ap (λ (x : Found). x.first) here)) ];
+      | inl was ↦ let r = p.early d was in (r.0, (omega (arith, r.1.0), r.1.1))
+      | inr here ↦ (i, (omega arith, sym e ∙ ap (λ (x : Found). x.first) here))
+    ];
     rising = λ a d l.
-      let len : length (groups ++ g ∷ []) ≡ length groups + 1 = length_push groups g in
-      let a_in : a < length groups = omega (arith, l, len) in
-      let at_a : get_or (groups ++ g ∷ []) a d ≡ get_or groups a d = get_or-append groups (g ∷ []) d a a_in in
-      elim (cases_eq (a + 1) (length groups)) as (λ _. (get_or (groups ++ g ∷ []) a d).first < (get_or (groups ++ g ∷ []) (a + 1) d).first) [
-        inl z ↦
-          let last : get_or (groups ++ g ∷ []) (a + 1) d ≡ g = ap (λ (x : ℕ). get_or (groups ++ g ∷ []) x d) z ∙ get_or-append_seam groups g [] d in
-          let r = p.early (get_or groups a d) (group_at groups a d a_in) in
-          let less : at firsts r.0 < at firsts i = rise firsts f.ascending r.0 i r.1.0 i_in in
-          let u : (get_or (groups ++ g ∷ []) a d).first ≡ at firsts r.0 = ap (λ (x : Found). x.first) at_a ∙ sym r.1.1 in
-          let v : (get_or (groups ++ g ∷ []) (a + 1) d).first ≡ at firsts i = ap (λ (x : Found). x.first) last ∙ e in
-          omega (arith, less, u, v)
-      | inr ne ↦
-          let next_in : a + 1 < length groups = omega (arith, ne, a_in) in
-          let u : (get_or (groups ++ g ∷ []) a d).first ≡ (get_or groups a d).first = ap (λ (x : Found). x.first) at_a in
-          let v : (get_or (groups ++ g ∷ []) (a + 1) d).first ≡ (get_or groups (a + 1) d).first = ap (λ (x : Found). x.first) (get_or-append groups (g ∷ []) d (a + 1) next_in) in
-          let less : (get_or groups a d).first < (get_or groups (a + 1) d).first = p.rising a d next_in in
-          omega (arith, less, u, v) ];
+        let len : length (groups ++ g ∷ []) ≡ length groups + 1 = length_push groups g in
+        let a_in : a < length groups = omega (arith, l, len) in
+        let at_a : get_or (groups ++ g ∷ []) a d ≡ get_or groups a d = get_or-append groups (g ∷ []) d a a_in in
+        elim (cases_eq (a + 1) (length groups)) as (λ _. (get_or (groups ++ g ∷ []) a d).first < (get_or (groups ++ g ∷ []) (a + 1) d).first) [
+          | inl z ↦
+              let last : get_or (groups ++ g ∷ []) (a + 1) d ≡ g = ap (λ (x : ℕ). get_or (groups ++ g ∷ []) x d) z ∙ get_or-append_seam groups g [] d in
+              let r = p.early (get_or groups a d) (group_at groups a d a_in) in
+              let less : at firsts r.0 < at firsts i = rise firsts f.ascending r.0 i r.1.0 i_in in
+              let u : (get_or (groups ++ g ∷ []) a d).first ≡ at firsts r.0 = ap (λ (x : Found). x.first) at_a ∙ sym r.1.1 in
+              let v : (get_or (groups ++ g ∷ []) (a + 1) d).first ≡ at firsts i = ap (λ (x : Found). x.first) last ∙ e in
+              omega (arith, less, u, v)
+          | inr ne ↦
+              let next_in : a + 1 < length groups = omega (arith, ne, a_in) in
+              let u : (get_or (groups ++ g ∷ []) a d).first ≡ (get_or groups a d).first = ap (λ (x : Found). x.first) at_a in
+              let v : (get_or (groups ++ g ∷ []) (a + 1) d).first ≡ (get_or groups (a + 1) d).first = ap (λ (x : Found). x.first) (get_or-append groups (g ∷ []) d (a + 1) next_in) in
+              let less : (get_or groups a d).first < (get_or groups (a + 1) d).first = p.rising a d next_in in
+              omega (arith, less, u, v)
+        ];
     whole = λ j a b l sa sb ne ca cb. elim (cases_eq j i) as (λ _. (d : Found) × (Contains (groups ++ g ∷ []) d × d.first ≡ at firsts j)) [
-      inl here ↦ (g, (Contains-push groups g, e ∙ ap (at firsts) (sym here)))
-    | inr other ↦ let r = p.whole j a b (omega arith) sa sb ne ca cb in (r.0, (Contains-append_left groups (g ∷ []) r.0 r.1.0, r.1.1)) ];
+      | inl here ↦ (g, (Contains-push groups g, e ∙ ap (at firsts) (sym here)))
+      | inr other ↦ let r = p.whole j a b (omega arith) sa sb ne ca cb in (r.0, (Contains-append_left groups (g ∷ []) r.0 r.1.0, r.1.1))
+    ];
   })
 
   pub grouping_off : length xs < 2 → IsGrouping number class firsts groups (i + 1)
@@ -287,11 +308,12 @@ module _ (number class firsts : List ℕ) (n : ℕ) (f : AreFirsts number class 
     early = λ d c. let r = p.early d c in (r.0, (omega (arith, r.1.0), r.1.1));
     rising = p.rising;
     whole = λ j a b l sa sb ne ca cb. elim (cases_eq j i) as (λ _. (d : Found) × (Contains groups d × d.first ≡ at firsts j)) [
-      inl here ↦ absurd (
-        let e : at class (at firsts j) ≡ at class (at firsts i) = ap (λ (x : ℕ). at class (at firsts x)) here in
-        let two = two_apart xs (at number a) (at number b) (q.whole a sa (ca ∙ e)) (q.whole b sb (cb ∙ e)) ne in
-        omega (arith, two, short))
-    | inr other ↦ p.whole j a b (omega arith) sa sb ne ca cb ];
+      | inl here ↦ absurd (
+          let e : at class (at firsts j) ≡ at class (at firsts i) = ap (λ (x : ℕ). at class (at firsts x)) here in
+          let two = two_apart xs (at number a) (at number b) (q.whole a sa (ca ∙ e)) (q.whole b sb (cb ∙ e)) ne in
+          omega (arith, two, short))
+      | inr other ↦ p.whole j a b (omega arith) sa sb ne ca cb
+    ];
   }
 
 -- the classes before index i of a list in order, and the lists of their groups
@@ -350,12 +372,12 @@ listing_ended number class list n groups i all p past =
       each = p.grouping.each;
       rising = p.grouping.rising;
       whole = λ a b sa sb ne oa cb.
-        let r = f.whole a (all a sa) sa oa in
-        let k = r.1.0 in
-        let e : at firsts k.0 ≡ r.0 = sym (get_or_default_zero firsts k.0 r.0 k.1) ∙ k.2 in
-        let same : at class (at firsts k.0) ≡ at class a = ap (at class) e ∙ r.1.1 in
-        let g = p.grouping.whole k.0 a b (omega (arith, k.1, past, len)) sa sb ne (sym same) (cb ∙ sym same) in
-        (g.0, (g.1.0, ap (at class) g.1.1 ∙ same));
+          let r = f.whole a (all a sa) sa oa in
+          let k = r.1.0 in
+          let e : at firsts k.0 ≡ r.0 = sym (get_or_default_zero firsts k.0 r.0 k.1) ∙ k.2 in
+          let same : at class (at firsts k.0) ≡ at class a = ap (at class) e ∙ r.1.1 in
+          let g = p.grouping.whole k.0 a b (omega (arith, k.1, past, len)) sa sb ne (sym same) (cb ∙ sym same) in
+          (g.0, (g.1.0, ap (at class) g.1.1 ∙ same));
     }
 
 -- the walk over the meetings, with its table and its list of classes
@@ -373,8 +395,8 @@ walking_on number class seen seen' list list' n k p some open_there inside own n
   firsts = p.firsts ++ n ∷ [];
   list_is = f ∙ ap (λ (x : List ℕ). x ++ k ∷ []) p.list_is ∙ ap (λ (x : ℕ). map (λ a. at class a) p.firsts ++ x ∷ []) (sym own) ∙ sym (map-append (λ (a : ℕ). at class a) p.firsts (n ∷ []));
   finding =
-    subst (λ (x : List Bool). IsFinding number class x (p.firsts ++ n ∷ []) (n + 1)) (ap (λ (x : ℕ). set seen x true) own ∙ sym e)
-    (finding_on number class seen p.firsts (p.firsts ++ n ∷ []) n p.finding some open_there inside (ap (is_on seen) own ∙ new) refl);
+      subst (λ (x : List Bool). IsFinding number class x (p.firsts ++ n ∷ []) (n + 1)) (ap (λ (x : ℕ). set seen x true) own ∙ sym e)
+      (finding_on number class seen p.firsts (p.firsts ++ n ∷ []) n p.finding some open_there inside (ap (is_on seen) own ∙ new) refl);
 }
 
 pub walking_off : (number class : List ℕ) (seen seen' : List Bool) (list list' : List ℕ) (n k : ℕ) → IsWalking number class seen list n → at class n ≡ k → is_on seen k ≡ true → seen' ≡ seen

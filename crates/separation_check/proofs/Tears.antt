@@ -59,13 +59,14 @@ pub one_passed : (g : Grid) (c d : Cell) (class y x : ℕ) → AreOfClass g c cl
 unfolding cell
 one_passed g c d class y x p i j same b s q k =
     elim q as (λ _. class_of g b ≡ class) [
-      inl l ↦ p b s (inl l) k
-    | inr r ↦ by_lt_z (b.i +ℤ pos 1) (c.i +ℤ pos x) (λ (l : (b.i +ℤ pos 1) <ℤ (c.i +ℤ pos x)). p b s (inr (r.0, l)) k)
-        (λ (l : (c.i +ℤ pos x) ≤ℤ (b.i +ℤ pos 1)).
-        let ei : d.i ≡ b.i = level d.i b.i c.i x i l r.1 in
-        let ej : d.j ≡ b.j = back d.j b.j (c.j +ℤ pos y) j r.0 in
-        let e : d ≡ b = ap (λ v. cell v d.j) ei ∙ ap (λ v. cell b.i v) ej in
-        ap (class_of g) (sym e) ∙ same (ap (is_unswept g) e ∙ k)) ]
+      | inl l ↦ p b s (inl l) k
+      | inr r ↦ by_lt_z (b.i +ℤ pos 1) (c.i +ℤ pos x) (λ (l : (b.i +ℤ pos 1) <ℤ (c.i +ℤ pos x)). p b s (inr (r.0, l)) k)
+          (λ (l : (c.i +ℤ pos x) ≤ℤ (b.i +ℤ pos 1)).
+          let ei : d.i ≡ b.i = level d.i b.i c.i x i l r.1 in
+          let ej : d.j ≡ b.j = back d.j b.j (c.j +ℤ pos y) j r.0 in
+          let e : d ≡ b = ap (λ v. cell v d.j) ei ∙ ap (λ v. cell b.i v) ej in
+          ap (class_of g) (sym e) ∙ same (ap (is_unswept g) e ∙ k))
+    ]
   where
     level : (i i' m : ℤ) (x : ℕ) → i +ℤ pos 1 ≡ m +ℤ pos x → (m +ℤ pos x) ≤ℤ (i' +ℤ pos 1) → (i' +ℤ pos 1) <ℤ (m +ℤ pos (x + 1)) → i ≡ i'
     level i i' m x e l h = omega (arith, ints)
@@ -78,9 +79,10 @@ pub row_passed : (g : Grid) (c : Cell) (class y x : ℕ) → AreOfClass g c clas
 row_passed g c class y x p past b s q k =
     p b s
     (elim q as (λ _. IsPassed c y x b) [
-      inl l ↦ by_lt_z (b.j +ℤ pos 1) (c.j +ℤ pos y) (λ (h : (b.j +ℤ pos 1) <ℤ (c.j +ℤ pos y)). inl h)
-        (λ (h : (c.j +ℤ pos y) ≤ℤ (b.j +ℤ pos 1)). inr (level b.j c.j y h l, high b.i c.i x s.east past))
-    | inr r ↦ absurd (under b.i c.i s.west r.1) ])
+      | inl l ↦ by_lt_z (b.j +ℤ pos 1) (c.j +ℤ pos y) (λ (h : (b.j +ℤ pos 1) <ℤ (c.j +ℤ pos y)). inl h)
+          (λ (h : (c.j +ℤ pos y) ≤ℤ (b.j +ℤ pos 1)). inr (level b.j c.j y h l, high b.i c.i x s.east past))
+      | inr r ↦ absurd (under b.i c.i s.west r.1)
+    ])
     k
   where
     level : (j m : ℤ) (y : ℕ) → (m +ℤ pos y) ≤ℤ (j +ℤ pos 1) → (j +ℤ pos 1) <ℤ (m +ℤ pos (y + 1)) → j +ℤ pos 1 ≡ m +ℤ pos y
@@ -127,8 +129,9 @@ agreed_on g frame n m c p h place next here = record {
   same = p.same;
   valid = p.valid;
   each = λ d k l. elim (cases_eq (place_of frame d) n) as (λ _. Agrees g d) [
-    inl e ↦ subst (Agrees g) (place_same frame c d h k (place ∙ sym e)) here
-  | inr ne ↦ p.each d k (omega (arith, l, next, ne)) ];
+    | inl e ↦ subst (Agrees g) (place_same frame c d h k (place ∙ sym e)) here
+    | inr ne ↦ p.each d k (omega (arith, l, next, ne))
+  ];
 }
 
 pub agreed_ended : (g : Grid) (frame : Frame) (n : ℕ) → AreAgreed g frame n → n ≡ cells_of frame → AreWhole (is_unswept g) (class_of g)

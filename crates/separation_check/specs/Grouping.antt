@@ -78,4 +78,4 @@ pub record AreAllFound (number class : List ℕ) (groups : List (List ℕ)) : Ty
   pub each : (g : Found) → Contains found g → IsFound number class g.first g.islands
   pub rising : IsRising found
   pub whole : (a b : ℕ) → 0 < at number a → 0 < at number b → at number a ≢ at number b → 0 < at class a → at class b ≡ at class a
-    → (g : Found) × (Contains found g × (at class g.first ≡ at class a))
+      → (g : Found) × (Contains found g × (at class g.first ≡ at class a))

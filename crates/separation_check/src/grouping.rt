@@ -112,7 +112,12 @@ fn listed(alloc: Global, table: &[bool]) -> Result<Vec<u16>, AllocError>
 }
 
 // The islands of one class, ascending.
-fn members(alloc: Global, meetings: &[Meeting], class: u32, table: &mut [bool]) -> Result<Vec<u16>, AllocError>
+fn members(
+    alloc: Global,
+    meetings: &[Meeting],
+    class: u32,
+    table: &mut [bool],
+) -> Result<Vec<u16>, AllocError>
     requires some { AreSome (islands_of meetings.now) }
     requires few { (a : ℕ) → at (islands_of meetings.now) a < length table.old }
     requires small { length table.old ≤ 65536 }
@@ -124,7 +129,11 @@ fn members(alloc: Global, meetings: &[Meeting], class: u32, table: &mut [bool]) 
 }
 
 // The classes, in the order of their first meetings.
-fn classes_in_order(alloc: Global, meetings: &[Meeting], seen: &mut [bool]) -> Result<Vec<u32>, AllocError>
+fn classes_in_order(
+    alloc: Global,
+    meetings: &[Meeting],
+    seen: &mut [bool],
+) -> Result<Vec<u32>, AllocError>
     requires some_islands { AreSome (islands_of meetings.now) }
     requires some_classes { AreSome (classes_of meetings.now) }
     requires few { (a : ℕ) → at (classes_of meetings.now) a < length seen.old }
@@ -143,7 +152,12 @@ fn classes_in_order(alloc: Global, meetings: &[Meeting], seen: &mut [bool]) -> R
 }
 
 // The groups of the classes that hold two or more islands, by the list of all classes.
-fn groups_by(alloc: Global, meetings: &[Meeting], list: &[u32], table: &mut [bool]) -> Result<Vec<Group>, AllocError>
+fn groups_by(
+    alloc: Global,
+    meetings: &[Meeting],
+    list: &[u32],
+    table: &mut [bool],
+) -> Result<Vec<Group>, AllocError>
     requires some { AreSome (islands_of meetings.now) }
     requires few { (a : ℕ) → at (islands_of meetings.now) a < length table.old }
     requires small { length table.old ≤ 65536 }

@@ -38,7 +38,12 @@ fn free_island(bench: &Workbench, c: Cell) -> u16
 }
 
 // Notes that an island meets a class, unless it is the one that the island met last.
-fn note(meetings: &mut Vec<Meeting>, last: &mut [u32], island: u16, class: u32) -> Result<(), AllocError>
+fn note(
+    meetings: &mut Vec<Meeting>,
+    last: &mut [u32],
+    island: u16,
+    class: u32,
+) -> Result<(), AllocError>
     requires { length last.old ≡ 65536 }
     ensures skipped { IfOk result (λ _. (island ≡ 0) ⊎ (slice_index last.old island ≡ class) → (meetings.new.items ≡ meetings.old.items) × (last.new ≡ last.old)) }
     ensures added { IfOk result (λ _. island ≢ 0 → slice_index last.old island ≢ class
@@ -52,7 +57,11 @@ fn note(meetings: &mut Vec<Meeting>, last: &mut [u32], island: u16, class: u32) 
 }
 
 // Notes the meetings in the order of rows; `last` holds the class that each island met last.
-fn meetings_by(alloc: Global, bench: &Workbench, last: &mut [u32]) -> Result<Vec<Meeting>, AllocError>
+fn meetings_by(
+    alloc: Global,
+    bench: &Workbench,
+    last: &mut [u32],
+) -> Result<Vec<Meeting>, AllocError>
     requires last { last.old ≡ replicate 65536 0 }
     requires classes { IsClasses (is_unswept bench.now) (class_of bench.now) }
     ensures { IfOk result (λ v. AreMeetings bench.now.frame (is_unswept bench.now) (island_of bench.now) (class_of bench.now) (islands_of v.items) (classes_of v.items) (cells_of bench.now.frame)) }

@@ -75,7 +75,10 @@ fn groups_are_the_islands_of_one_class(rt: HostRuntime) -> Result<(), Fail> {
         // A corner is enough for a chain.
         ([*b"##.......", *b"#1#....2.", *b"###......"], &[1, 2, 0]),
         // Two classes: the outer one has the first kept cell.
-        ([*b"#####....", *b"#2.3#.4..", *b"#####...1"], &[1, 4, 0, 2, 3, 0]),
+        (
+            [*b"#####....", *b"#2.3#.4..", *b"#####...1"],
+            &[1, 4, 0, 2, 3, 0],
+        ),
         // One island in its class alone, and two others.
         ([*b"###......", *b"#1#.3..2.", *b"###......"], &[2, 3, 0]),
     ];
@@ -112,10 +115,11 @@ fn a_label_of_another_class_is_a_fault(rt: HostRuntime) {
 
 #[test]
 fn a_segment_sweeps_the_cells_near_it(rt: HostRuntime) {
-    // From the centre of the cell (0, 0) to that of (2, 0), one pitch wide to each side.
+    // From the centre of the cell (0, 0) to that of (2, 0), one pitch wide to each side; the rows are
+    // drawn from the south to the north.
     let (a, b) = (Point { x: 1000, y: 1000 }, Point { x: 5000, y: 1000 });
     for (d, rows) in [
-        (4000_u16, [*b"###......", *b"####.....", *b"........."]),
+        (4000_u16, [*b"####.....", *b"###......", *b"........."]),
         (3999, [*b"###......", *b".........", *b"........."]),
     ] {
         let Ok(mut bench) = Workbench::reserve(rt.alloc(), frame()) else {

@@ -22,14 +22,15 @@ meetings-preserved c =
     let some : 0 < at (islands_of ms) n = c.requires.some_islands n (omega (arith, islands_len ms, c.meetings-test.true)) in
     let class_there : 0 < at (classes_of ms) n = c.requires.some_classes n (omega (arith, classes_len ms, c.meetings-test.true)) in
     elim c.if-not-seen-class.branch [
-      then-not-seen-class+in_ok-push w ↦
-        record {
-          walking =
-            walking_on _ _ _ _ _ _ _ _ p.walking some class_there inside (class_at ms n) w.if-not-seen-class.true w.seen-is (ap (λ (v : Vec ℕ Global). v.items) w.list-is ∙ w.in_ok-push.ensures.items);
-          len = c.if-not-seen-class.auto.seen ∙ p.len;
-        }
-    | else-not-seen-class w ↦
-        record {
-          walking = walking_off _ _ _ _ _ _ _ _ p.walking (class_at ms n) w.if-not-seen-class.false w.seen-is (ap (λ (v : Vec ℕ Global). v.items) w.list-is);
-          len = c.if-not-seen-class.auto.seen ∙ p.len;
-        } ]
+      | then-not-seen-class+in_ok-push w ↦
+          record {
+            walking =
+                walking_on _ _ _ _ _ _ _ _ p.walking some class_there inside (class_at ms n) w.if-not-seen-class.true w.seen-is (ap (λ (v : Vec ℕ Global). v.items) w.list-is ∙ w.in_ok-push.ensures.items);
+            len = c.if-not-seen-class.auto.seen ∙ p.len;
+          }
+      | else-not-seen-class w ↦
+          record {
+            walking = walking_off _ _ _ _ _ _ _ _ p.walking (class_at ms n) w.if-not-seen-class.false w.seen-is (ap (λ (v : Vec ℕ Global). v.items) w.list-is);
+            len = c.if-not-seen-class.auto.seen ∙ p.len;
+          }
+    ]

@@ -11,13 +11,14 @@ classes-preserved c =
     let q = c.in_ok-islands.ensures in
     record {
       listing =
-        elim c.if-len-ge2.branch [
-          then-len-ge2+in_ok-push w ↦
-            let two : 2 ≤ length c.in_ok-islands.islands.items = search rules in
-            listing_on _ _ _ _ _ _ _ _ _ p.listing c.classes-test.true refl q two (ap (λ (v : Vec (List ℕ) Global). v.items) w.groups-is ∙ w.in_ok-push.ensures.items)
-        | else-len-ge2 w ↦
-            let short : length c.in_ok-islands.islands.items < 2 = search rules in
-            listing_off _ _ _ _ _ _ _ _ _ p.listing c.classes-test.true refl q short (ap (λ (v : Vec (List ℕ) Global). v.items) w.groups-is) ];
+          elim c.if-len-ge2.branch [
+            | then-len-ge2+in_ok-push w ↦
+                let two : 2 ≤ length c.in_ok-islands.islands.items = search rules in
+                listing_on _ _ _ _ _ _ _ _ _ p.listing c.classes-test.true refl q two (ap (λ (v : Vec (List ℕ) Global). v.items) w.groups-is ∙ w.in_ok-push.ensures.items)
+            | else-len-ge2 w ↦
+                let short : length c.in_ok-islands.islands.items < 2 = search rules in
+                listing_off _ _ _ _ _ _ _ _ _ p.listing c.classes-test.true refl q short (ap (λ (v : Vec (List ℕ) Global). v.items) w.groups-is)
+          ];
       len = c.members.auto.table ∙ p.len;
     }
 

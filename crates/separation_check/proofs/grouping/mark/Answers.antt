@@ -17,7 +17,8 @@ meetings-preserved c =
     let inside : at (islands_of ms) n < length c.meetings.table = omega (arith, c.requires.few n, p.len) in
     let some : 0 < at (islands_of ms) n = c.requires.some n (omega (arith, islands_len ms, c.meetings-test.true)) in
     elim c.if-meeting-class.branch [
-      then-meeting-class w ↦
-        record { table = table_put _ _ _ _ _ _ _ p.table inside some (class_at ms n ∙ w.if-meeting-class.true) (island_at ms n) w.table-is; len = c.if-meeting-class.auto.table ∙ p.len }
-    | else-meeting-class w ↦
-        record { table = table_kept _ _ _ _ _ _ p.table (λ e. w.if-meeting-class.false (sym (class_at ms n) ∙ e)) w.table-is; len = c.if-meeting-class.auto.table ∙ p.len } ]
+      | then-meeting-class w ↦
+          record { table = table_put _ _ _ _ _ _ _ p.table inside some (class_at ms n ∙ w.if-meeting-class.true) (island_at ms n) w.table-is; len = c.if-meeting-class.auto.table ∙ p.len }
+      | else-meeting-class w ↦
+          record { table = table_kept _ _ _ _ _ _ p.table (λ e. w.if-meeting-class.false (sym (class_at ms n) ∙ e)) w.table-is; len = c.if-meeting-class.auto.table ∙ p.len }
+    ]

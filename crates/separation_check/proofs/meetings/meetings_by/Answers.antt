@@ -15,8 +15,8 @@ rows-init c =
       same = c.frame-frame.ensures.value;
       frame = c.frame-frame.ensures.valid;
       collecting =
-        subst (IsCollecting g.frame (is_unswept g) (island_of g) (class_of g) c.new-list.result.items c.args.last.now) none
-        (collecting_begun g.frame (is_unswept g) (island_of g) (class_of g) c.new-list.result.items c.args.last.now c.new-list.ensures.items c.requires.last);
+          subst (IsCollecting g.frame (is_unswept g) (island_of g) (class_of g) c.new-list.result.items c.args.last.now) none
+          (collecting_begun g.frame (is_unswept g) (island_of g) (class_of g) c.new-list.result.items c.args.last.now c.new-list.ensures.items c.requires.last);
     }
 
 pub cells-preserved : goal.cells-preserved
@@ -30,9 +30,9 @@ cells-preserved c =
       same = p.same;
       frame = p.frame;
       collecting =
-        subst (IsCollecting g.frame (is_unswept g) (island_of g) (class_of g) c.note.new.meetings.items c.note.new.last) next
-        (noted g c.frame-frame.result c.cells.list.items c.note.new.meetings.items c.cells.last c.note.new.last n c.free_island-island.result c.work-class.result c.cell_at-c.result c.requires.classes p.same
-        p.collecting k.inside k.place (search rules) c.free_island-island.ensures c.work-class.ensures c.in_ok-note.ensures.skipped c.in_ok-note.ensures.added);
+          subst (IsCollecting g.frame (is_unswept g) (island_of g) (class_of g) c.note.new.meetings.items c.note.new.last) next
+          (noted g c.frame-frame.result c.cells.list.items c.note.new.meetings.items c.cells.last c.note.new.last n c.free_island-island.result c.work-class.result c.cell_at-c.result c.requires.classes p.same
+          p.collecting k.inside k.place (search rules) c.free_island-island.ensures c.work-class.ensures c.in_ok-note.ensures.skipped c.in_ok-note.ensures.added);
     }
 
 pub returns : goal.returns
