@@ -1,4 +1,4 @@
-use Rattle.std.proofs.Common.{rules, Vec, Global, List, ℕ, ◌≡◌, ◌+◌, ◌<◌, ◌≤◌, ◌∙◌, sym, ap, refl, length, arith}
+use Rattle.std.proofs.Common.{rules, Vec, Global, List, ℕ, ◌<◌, ◌≤◌, ◌∙◌, ap, refl, length, arith}
 use Rattle.separation_check.specs.Meetings.{islands_of}
 use Rattle.separation_check.specs.Grouping.{at}
 use Rattle.separation_check.proofs.Tables.{listing_on, listing_off, listing_ended, island_in, islands_len}
