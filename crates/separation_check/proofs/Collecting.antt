@@ -1,19 +1,18 @@
 -- The meetings of islands and classes are noted, cell by cell.
-use Rattle.std.proofs.Common.{◌≡◌, ◌≢◌, ◌⊎◌, inl, inr, ℕ, zero, suc, ◌+◌, ◌*◌, ◌<◌, ◌≤◌, Bool, true, false, not, cond, List, [], ◌∷◌, ◌++◌, length, map, set, replicate, get_or, refl, sym, ap, subst, ◌∙◌, arith, get_or-set_same, get_or-set_other}
+use Rattle.std.proofs.Common.{◌≡◌, ◌≢◌, ◌⊎◌, inl, inr, ℕ, zero, suc, ◌+◌, ◌<◌, Bool, true, false, not, cond, List, [], ◌∷◌, ◌++◌, length, set, replicate, get_or, refl, sym, ap, subst, ◌∙◌, arith, get_or-set_same, get_or-set_other}
 use Rattle.std.proofs.lemmas.List.{length-set, length_push, map-append, length-replicate}
 use Rattle.std.proofs.Math.ListN.{get_or-append}
 use Rattle.std.proofs.Math.Seq.{get_or-append_seam}
 use Rattle.std.proofs.lemmas.Grind.{get_or_default_zero}
 use Rattle.std.proofs.lemmas.Bool.{false≢true, cases_eq}
-use Rattle.std.specs.List.{Contains}
 use Rattle.number_laws.proofs.Tests.{by_bool}
 use Rattle.board_base.specs.declared.places.Cell.{Cell}
 use Rattle.cell_grid.specs.declared.frames.Frame.{Frame}
-use Rattle.cell_grid.specs.Place.{IsFrame, InFrame, place_of, cell_of_place, cells_of}
+use Rattle.cell_grid.specs.Place.{InFrame, place_of, cell_of_place}
 use Rattle.cell_grid.specs.Grid.{Grid}
 use Rattle.cell_grid.specs.Cells.{in_frame}
 use Rattle.cell_grid.specs.Chains.{IsClasses}
-use Rattle.cell_grid.proofs.PlaceLaws.{place_below, place_same, cell_of_place-place_of}
+use Rattle.cell_grid.proofs.PlaceLaws.{place_same, cell_of_place-place_of}
 use Rattle.separation_check.specs.declared.meetings.Meeting.{Meeting}
 use Rattle.separation_check.specs.Unswept.{is_unswept, island_of, class_of}
 use Rattle.separation_check.specs.Meetings.{islands_of, classes_of, IsMet, IsNoted, AreMeetings}

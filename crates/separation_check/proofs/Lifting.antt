@@ -1,21 +1,21 @@
 -- The groups of the meetings are the groups of the plane.
-use Rattle.std.proofs.Common.{◌≡◌, ◌≢◌, ◌⊎◌, inl, inr, ℕ, zero, suc, ◌+◌, ◌-◌, ◌<◌, ◌≤◌, Bool, true, false, cond, List, [], ◌∷◌, length, map, get_or, slice_index_or, refl, sym, ap, subst, ◌∙◌, arith}
+use Rattle.std.proofs.Common.{◌≡◌, inl, inr, ℕ, zero, suc, ◌+◌, ◌<◌, ◌≤◌, Bool, true, false, cond, List, [], ◌∷◌, length, map, get_or, refl, sym, ap, subst, ◌∙◌, arith}
 use Rattle.std.proofs.lemmas.List.{get_or-map, length-map}
-use Rattle.std.proofs.lemmas.Bool.{false≢true, cases_lt, cases_eq}
+use Rattle.std.proofs.lemmas.Bool.{false≢true, cases_eq}
 use Rattle.std.specs.List.{Contains}
 use Rattle.number_laws.proofs.Tests.{by_bool}
 use Rattle.board_base.specs.declared.places.Cell.{Cell}
 use Rattle.cell_grid.specs.declared.frames.Frame.{Frame}
 use Rattle.cell_grid.specs.Grid.{Grid}
-use Rattle.cell_grid.specs.Place.{InFrame, place_of, cell_of_place, cells_of}
-use Rattle.cell_grid.specs.Cells.{in_frame, number_in}
+use Rattle.cell_grid.specs.Place.{place_of, cell_of_place, cells_of}
+use Rattle.cell_grid.specs.Cells.{in_frame}
 use Rattle.cell_grid.specs.Chains.{IsBefore, IsLinked, IsClasses}
 use Rattle.cell_grid.specs.Groups.{IsGroup, AreGroups}
 use Rattle.cell_grid.proofs.PlaceLaws.{place_below}
 use Rattle.separation_check.specs.Unswept.{island_of}
 use Rattle.separation_check.specs.Meetings.{IsMet, IsNoted, AreMeetings}
 use Rattle.separation_check.specs.Grouping.{at, AreSome, Found, IsFound, AreAllFound}
-use Rattle.separation_check.proofs.Planes.{inside, of_inside}
+use Rattle.separation_check.proofs.Planes.{inside}
 use Rattle.separation_check.proofs.Links.{chain_start, chain_end}
 use Rattle.separation_check.proofs.Rows.{before_less, less_before}
 use Rattle.separation_check.proofs.Tables.{rise, island_in}

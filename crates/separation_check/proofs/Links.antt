@@ -1,6 +1,5 @@
 -- Chains of free cells: turned round, and one after another.
-use Rattle.std.proofs.Common.{◌≡◌, ℕ, zero, suc, ◌+◌, ℤ, pos, ◌-ℤ◌, ◌≤ℤ◌, refl, sym, subst, arith}
-use borrow.Author.Differences.{ints}
+use Rattle.std.proofs.Common.{◌≡◌, ℕ, zero, suc, ◌+◌, refl, sym, subst, arith}
 use Rattle.board_base.specs.declared.places.Cell.{Cell}
 use Rattle.board_base.specs.Lattice.{IsBeside}
 use Rattle.cell_grid.specs.Chains.{Chain, IsLinkedOver}

@@ -1,8 +1,7 @@
 -- A pair of islands is listed exactly where a chain joins it.
-use Rattle.std.proofs.Common.{◌≡◌, ◌≢◌, ◌↔◌, ℕ, ◌<◌, pos, Bool, true, List, [], get_or, sym, subst, ◌∙◌}
+use Rattle.std.proofs.Common.{◌≡◌, ◌≢◌, ◌↔◌, ℕ, ◌<◌, pos, true, List, [], get_or, sym, subst, ◌∙◌}
 use Rattle.std.specs.List.{Contains}
 use Rattle.board_base.specs.declared.places.Cell.{Cell}
-use Rattle.cell_grid.specs.Chains.{IsLinkedOver}
 use Rattle.cell_grid.specs.Groups.{AreGroups, IsListedPair, AreJoined}
 use Rattle.separation_check.specs.Laws.{PairLaw}
 use Rattle.separation_check.proofs.Links.{linked_sym, linked_trans}

@@ -1,6 +1,6 @@
 -- Tables of islands and of classes, and the groups that they give.
-use Rattle.std.proofs.Common.{Vec, Global, ◌≡◌, ◌≢◌, ℕ, zero, suc, ◌+◌, ◌-◌, ◌<◌, ◌≤◌, Bool, true, false, List, [], ◌∷◌, ◌++◌, length, map, set, replicate, get_or, slice_index_or, ◌⊎◌, inl, inr, refl, sym, ap, subst, ◌∙◌, arith, get_or-set_same, get_or-set_other, length-append}
-use Rattle.std.proofs.lemmas.List.{length-set, get_or_past, length_push, length-map, get_or-map, map-append}
+use Rattle.std.proofs.Common.{Vec, Global, ◌≡◌, ◌≢◌, ℕ, zero, suc, ◌+◌, ◌-◌, ◌<◌, ◌≤◌, Bool, true, false, List, [], ◌∷◌, ◌++◌, length, map, set, replicate, get_or, inl, inr, refl, sym, ap, subst, ◌∙◌, arith, get_or-set_same, get_or-set_other}
+use Rattle.std.proofs.lemmas.List.{get_or_past, length_push, length-map, get_or-map, map-append}
 use Rattle.std.proofs.Math.ListN.{get_or-append}
 use Rattle.std.proofs.Math.Seq.{get_or-append_seam}
 use Rattle.std.proofs.lemmas.List.Elements.{Contains-push, Contains-push_cases, Contains-append_left}
@@ -10,7 +10,7 @@ use Rattle.std.specs.List.{Contains}
 use Rattle.std.specs.List.Sorted.{IsStrictlyIncreasing}
 use Rattle.separation_check.specs.declared.meetings.Meeting.{Meeting}
 use Rattle.separation_check.specs.Meetings.{islands_of, classes_of}
-use Rattle.separation_check.specs.Grouping.{at, is_on, AreSome, IsTable, IsListed, AreFirsts, AreInOrder, AreSeen, Found, IsFound, IsMembers, IsRising, AreAllFound}
+use Rattle.separation_check.specs.Grouping.{at, is_on, IsTable, IsListed, AreFirsts, AreInOrder, AreSeen, Found, IsFound, IsMembers, IsRising, AreAllFound}
 
 off : (n i : ℕ) → get_or (replicate n false) i false ≡ false
 off zero i = refl

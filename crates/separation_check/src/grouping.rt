@@ -12,6 +12,9 @@ use cell_grid::Workbench;
 use std::alloc::{AllocError, Global};
 use std::marker::Model;
 
+// How many islands make a group.
+const SMALLEST_GROUP: usize = 2;
+
 /// The numbers of the islands that stand in one class, ascending.
 #[derive(Drop)]
 pub struct Group {
@@ -167,7 +170,7 @@ fn groups_by(
     let mut groups = Vec::new(alloc);
     'classes: for class in list {
         let islands = members(alloc, meetings, *class, table)?;
-        if islands.len() >= 2 {
+        if islands.len() >= SMALLEST_GROUP {
             groups.push(Group { islands })?;
         }
     }

@@ -1,5 +1,5 @@
 // The classes of the cells outside Swept, and whether working labels tell them apart.
-ghost use Rattle.std.specs.Prelude.{◌≡◌, ◌≤◌, ◌<◌, ◌≢◌, ◌+ℤ◌, ◌-ℤ◌, pos, ℕ, true, false, not, IfOk, IfErr, IfSome, IsNone};
+ghost use Rattle.std.specs.Prelude.{◌≡◌, ◌<◌, ◌≢◌, ◌+ℤ◌, ◌-ℤ◌, pos, ℕ, true, false, not, IfOk, IfErr, IfSome, IsNone};
 ghost use Rattle.board_base.specs.declared.places.Cell.{Cell};
 ghost use Rattle.board_base.specs.Lattice.{IsBeside};
 ghost use Rattle.cell_grid.specs.Place.{IsFrame, InFrame};
@@ -18,9 +18,8 @@ pub fn relabel(bench: &mut Workbench) -> u32
     ensures rest { bench.new ≡ record bench.old { works = (bench.new).works; waiting = (bench.new).waiting; put = (bench.new).put } }
     ensures classes { IsClasses (λ c. not (in_plane (bench.old).frame (bench.old).swept c)) (number_in (bench.old).frame 1 (bench.new).works) }
     ensures now { IsClasses (is_unswept bench.new) (class_of bench.new) }
-    ensures few { (c : Cell) → number_in (bench.old).frame 1 (bench.new).works c ≤ result }
 {
-    number_rest(bench, Plane::Swept)
+    number_rest(bench, Plane::Swept);
 }
 
 /// Two neighbouring cells outside Swept whose working labels differ; all cells outside the frame count

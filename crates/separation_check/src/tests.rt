@@ -1,5 +1,6 @@
 // Small frames, worked out by hand.
-ghost use Rattle.std.specs.Prelude.{◌≡◌, pos};
+ghost use Rattle.std.specs.Prelude.{◌≡◌, pos, IfOk};
+ghost use Rattle.board_base.specs.Places.{IsNearPlace};
 
 use crate::{LabelFault, check_labels, groups, mark_swept, relabel};
 use board_base::{Cell, Point};
@@ -63,6 +64,18 @@ fn listed(alloc: Global, bench: &mut Workbench) -> Result<Vec<u16>, AllocError> 
     Ok(list)
 }
 
+// A blank grid over the frame, after one segment.
+fn swept(alloc: Global, a: Point, b: Point, d: u16) -> Result<Workbench, GridError>
+    requires a { IsNearPlace a }
+    requires b { IsNearPlace b }
+    ensures { IfOk result (λ w. w.frame
+        ≡ record { pitch = pos 2000; i0 = pos 0; j0 = pos 0; width = 9; height = 3 }) }
+{
+    let mut bench = Workbench::reserve(alloc, frame())?;
+    mark_swept(&mut bench, a, b, d as i64);
+    Ok(bench)
+}
+
 #[test]
 fn groups_are_the_islands_of_one_class(rt: HostRuntime) -> Result<(), Fail> {
     let cases: [([[u8; 9]; 3], &[u16]); 6] = [
@@ -115,16 +128,16 @@ fn a_label_of_another_class_is_a_fault(rt: HostRuntime) {
 
 #[test]
 fn a_segment_sweeps_the_cells_near_it(rt: HostRuntime) {
-    // From the centre of the cell (0, 0) to that of (2, 0), one pitch wide to each side.
+    // From the centre of the cell (0, 0) to that of (2, 0), one pitch wide to each side; the rows are
+    // drawn from the south to the north.
     let (a, b) = (Point { x: 1000, y: 1000 }, Point { x: 5000, y: 1000 });
     for (d, rows) in [
-        (4000_u16, [*b"###......", *b"####.....", *b"........."]),
+        (4000_u16, [*b"####.....", *b"###......", *b"........."]),
         (3999, [*b"###......", *b".........", *b"........."]),
     ] {
-        let Ok(mut bench) = Workbench::reserve(rt.alloc(), frame()) else {
+        let Ok(bench) = swept(rt.alloc(), a, b, d) else {
             panic!(rt; "no memory");
         };
-        mark_swept(&mut bench, a, b, d as i64);
         for y in 0..3_u32 {
             for x in 0..9_u32 {
                 let c = cell_at(frame(), x, y);

@@ -1,4 +1,4 @@
-use Rattle.std.proofs.Common.{◌≡◌, ◌+◌, ◌≤◌, ◌<◌, arith}
+use Rattle.std.proofs.Common.{arith}
 use Rattle.separation_check.proofs.Tables.{class_at, end_on}
 use Rattle.separation_check.proofs.grouping.classes_end.Goals as goal
 use Rattle.separation_check.proofs.grouping.classes_end.Goals.{then-end-meeting, else-end-meeting}

@@ -1,4 +1,4 @@
-use Rattle.std.proofs.Common.{ℕ, ◌<◌, ◌≤◌}
+use Rattle.std.proofs.Common.{ℕ, ◌<◌}
 use Rattle.separation_check.specs.Meetings.{classes_of}
 use Rattle.separation_check.specs.Grouping.{at}
 use Rattle.separation_check.proofs.grouping.classes_end.Given as goal

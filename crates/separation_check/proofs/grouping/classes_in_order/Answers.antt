@@ -1,8 +1,8 @@
-use Rattle.std.proofs.Common.{◌≡◌, ◌+◌, ◌<◌, ◌∙◌, sym, ap, length, arith}
+use Rattle.std.proofs.Common.{◌<◌, ◌∙◌, ap, length, arith}
 use Rattle.std.proofs.Common.{Vec, Global, ℕ}
 use Rattle.separation_check.specs.Meetings.{islands_of, classes_of}
 use Rattle.separation_check.specs.Grouping.{at}
-use Rattle.separation_check.proofs.Tables.{class_at, islands_len, classes_len, walking_on, walking_off, walking_ended}
+use Rattle.separation_check.proofs.Tables.{class_at, islands_len, classes_len, walking_on, walking_off}
 use Rattle.separation_check.proofs.grouping.classes_in_order.Goals as goal
 use Rattle.separation_check.proofs.grouping.classes_in_order.Goals.{then-not-seen-class+in_ok-push, else-not-seen-class}
 

@@ -1,4 +1,4 @@
-use Rattle.std.proofs.Common.{◌≡◌, List, refl, sym, subst}
+use Rattle.std.proofs.Common.{List, refl, sym, subst}
 use Rattle.cell_grid.specs.Place.{cells_of}
 use Rattle.separation_check.specs.declared.meetings.Meeting.{Meeting}
 use Rattle.separation_check.specs.Unswept.{is_unswept, island_of, class_of}

@@ -1,9 +1,9 @@
-use Rattle.std.proofs.Common.{rules, Vec, Global, List, ℕ, ◌≡◌, ◌+◌, ◌<◌, ◌≤◌, ◌∙◌, sym, ap, refl, length, arith}
+use Rattle.std.proofs.Common.{rules, Vec, Global, List, ℕ, ◌<◌, ◌≤◌, ◌∙◌, ap, refl, length, arith}
 use Rattle.separation_check.specs.Meetings.{islands_of}
 use Rattle.separation_check.specs.Grouping.{at}
 use Rattle.separation_check.proofs.Tables.{listing_on, listing_off, listing_ended, island_in, islands_len}
 use Rattle.separation_check.proofs.grouping.groups_by.Goals as goal
-use Rattle.separation_check.proofs.grouping.groups_by.Goals.{then-len-ge2+in_ok-push, else-len-ge2}
+use Rattle.separation_check.proofs.grouping.groups_by.Goals.{then-len-ge-SMALLEST_GROUP+in_ok-push, else-len-ge-SMALLEST_GROUP}
 
 pub classes-preserved : goal.classes-preserved
 classes-preserved c =
@@ -11,11 +11,11 @@ classes-preserved c =
     let q = c.in_ok-islands.ensures in
     record {
       listing =
-          elim c.if-len-ge2.branch [
-            | then-len-ge2+in_ok-push w ↦
+          elim c.if-len-ge-SMALLEST_GROUP.branch [
+            | then-len-ge-SMALLEST_GROUP+in_ok-push w ↦
                 let two : 2 ≤ length c.in_ok-islands.islands.items = search rules in
                 listing_on _ _ _ _ _ _ _ _ _ p.listing c.classes-test.true refl q two (ap (λ (v : Vec (List ℕ) Global). v.items) w.groups-is ∙ w.in_ok-push.ensures.items)
-            | else-len-ge2 w ↦
+            | else-len-ge-SMALLEST_GROUP w ↦
                 let short : length c.in_ok-islands.islands.items < 2 = search rules in
                 listing_off _ _ _ _ _ _ _ _ _ p.listing c.classes-test.true refl q short (ap (λ (v : Vec (List ℕ) Global). v.items) w.groups-is)
           ];

@@ -1,4 +1,4 @@
-use Rattle.std.proofs.Common.{rules, ◌≡◌, ◌+◌, ◌≤◌, ◌<◌, arith}
+use Rattle.std.proofs.Common.{rules, arith}
 use Rattle.separation_check.proofs.Tables.{island_at, end_on}
 use Rattle.separation_check.proofs.grouping.islands_end.Goals as goal
 use Rattle.separation_check.proofs.grouping.islands_end.Goals.{then-end-meeting, else-end-meeting}

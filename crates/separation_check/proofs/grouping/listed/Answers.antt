@@ -1,4 +1,4 @@
-use Rattle.std.proofs.Common.{◌≡◌, ◌<◌, arith}
+use Rattle.std.proofs.Common.{arith}
 use Rattle.separation_check.proofs.Tables.{listed_on, listed_off, listed_renamed}
 use Rattle.separation_check.proofs.grouping.listed.Goals as goal
 use Rattle.separation_check.proofs.grouping.listed.Goals.{then-u-ne0+then-table-u+in_ok-push, else-u-ne0, else-u-ne0-via-then-u-ne0+else-table-u, else-u-ne0-via-else-u-ne0}

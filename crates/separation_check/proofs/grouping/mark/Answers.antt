@@ -1,5 +1,5 @@
-use Rattle.std.proofs.Common.{rules, ◌≡◌, ◌+◌, ◌<◌, ◌∙◌, sym, length, arith}
-use Rattle.separation_check.specs.Meetings.{islands_of, classes_of}
+use Rattle.std.proofs.Common.{◌<◌, ◌∙◌, sym, length, arith}
+use Rattle.separation_check.specs.Meetings.{islands_of}
 use Rattle.separation_check.specs.Grouping.{at}
 use Rattle.separation_check.proofs.Tables.{island_at, class_at, islands_len, table_put, table_kept}
 use Rattle.separation_check.proofs.grouping.mark.Goals as goal

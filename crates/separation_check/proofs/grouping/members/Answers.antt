@@ -1,4 +1,4 @@
-use Rattle.std.proofs.Common.{◌≡◌, ◌<◌, length, ℕ, arith}
+use Rattle.std.proofs.Common.{◌<◌, length, ℕ, arith}
 use Rattle.separation_check.specs.Meetings.{islands_of}
 use Rattle.separation_check.specs.Grouping.{at}
 use Rattle.separation_check.proofs.Tables.{members_listed, island_in, islands_len}

@@ -1,6 +1,5 @@
-use Rattle.std.proofs.Common.{ℕ, ◌≡◌, ◌+◌, ◌*◌, ◌∙◌, sym, ap, refl, arith}
+use Rattle.std.proofs.Common.{ℕ, ◌≡◌, ◌*◌, ◌∙◌, ap, refl, arith}
 use Rattle.std.proofs.Math.Nat.{mul_comm}
-use Rattle.cell_grid.specs.Place.{cells_of}
 use Rattle.separation_check.proofs.Tears.{agreed_on, agreed_ended, no_fault}
 use Rattle.separation_check.proofs.labels.check_labels.Goals as goal
 

@@ -1,4 +1,3 @@
-use Rattle.std.proofs.Common.{◌≡◌}
 use Rattle.separation_check.proofs.Tears.{none_passed, one_passed, row_passed, all_passed}
 use Rattle.separation_check.proofs.labels.other_beside.Goals as goal
 

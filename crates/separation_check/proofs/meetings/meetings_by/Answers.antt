@@ -1,6 +1,5 @@
-use Rattle.std.proofs.Common.{rules, ◌≡◌, ◌+◌, ◌*◌, ◌<◌, ◌∙◌, ℕ, refl, sym, ap, subst, arith}
+use Rattle.std.proofs.Common.{rules, ◌≡◌, ◌+◌, ◌*◌, ◌∙◌, ℕ, ap, subst, arith}
 use Rattle.std.proofs.Math.Nat.{mul_comm}
-use Rattle.cell_grid.specs.declared.frames.Frame.{Frame}
 use Rattle.cell_grid.specs.Place.{cells_of}
 use Rattle.separation_check.specs.Unswept.{is_unswept, island_of, class_of}
 use Rattle.separation_check.specs.Meetings.{islands_of, classes_of, AreMeetings}

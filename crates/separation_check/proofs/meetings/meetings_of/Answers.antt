@@ -1,4 +1,4 @@
-use Rattle.std.proofs.Common.{◌≡◌, ◌∙◌}
+use Rattle.std.proofs.Common.{◌∙◌}
 use Rattle.separation_check.proofs.meetings.meetings_of.Goals as goal
 
 pub meetings_by-requires-clause-last : goal.meetings_by-requires-clause-last
