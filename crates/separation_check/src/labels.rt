@@ -13,8 +13,8 @@ use cell_classes::number_rest;
 use cell_grid::{Frame, Plane, Workbench, cell_at, is_in_frame};
 
 /// Numbers the classes of the cells outside Swept in the working labels. All cells outside the frame
-/// are of class 1; swept cells have 0. Gives the last number.
-pub fn relabel(bench: &mut Workbench) -> u32
+/// are of class 1; swept cells have 0.
+pub fn relabel(bench: &mut Workbench)
     ensures rest { bench.new ≡ record bench.old { works = (bench.new).works; waiting = (bench.new).waiting; put = (bench.new).put } }
     ensures classes { IsClasses (λ c. not (in_plane (bench.old).frame (bench.old).swept c)) (number_in (bench.old).frame 1 (bench.new).works) }
     ensures now { IsClasses (is_unswept bench.new) (class_of bench.new) }
