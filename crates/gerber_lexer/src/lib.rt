@@ -1,2 +1,10 @@
-//! To be written.
+//! The commands of a Gerber file: where each one stands in the bytes, in a block of percent signs or as
+//! a word, and where the bytes can't be cut. What a command says is no matter of this crate; a further
+//! kind of block changes specs/Cut, and what ends a command may not change without it.
 #![tactic(auto)]
+
+mod lexer;
+#[cfg(test)]
+mod tests;
+
+pub use lexer::{Command, LexError, commands_tile, next_command};
