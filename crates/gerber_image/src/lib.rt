@@ -1,2 +1,13 @@
-//! To be written.
+//! The image of a Gerber file: what its commands say, what is in force at each one, and the objects that
+//! they paint, dark or clear. A further command is a row of specs/Words or specs/Extended, a setter of
+//! specs/InForce and a check of specs/Checks; that the kept state is what the last setters have set
+//! (specs/State) may not change.
 #![tactic(auto)]
+
+mod command;
+mod extended;
+mod numerals;
+mod texts;
+mod words;
+
+pub use command::{Act, Digits, Format, Mode, Operation, Repeat, Said, Template};

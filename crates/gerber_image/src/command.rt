@@ -1,0 +1,139 @@
+// What commands say.
+use apertures::{Mirror, Unit};
+use std::marker::Model;
+
+/// How many digits of a coordinate stand before and behind the point.
+#[derive(Clone, Copy, Debug, PartialEq, Eq)]
+pub struct Format {
+    pub whole: u32,
+    pub decimals: u32,
+}
+
+/// The digits of a coordinate.
+#[derive(Clone, Copy, Debug, PartialEq, Eq)]
+pub struct Digits {
+    /// How many they are.
+    pub count: usize,
+    /// Their number with its sign, where they are at most 18.
+    pub value: i64,
+}
+
+/// What an operation does.
+#[derive(Clone, Copy, Debug, PartialEq, Eq)]
+pub enum Act {
+    /// A stroke from the current point, or an edge.
+    Draw,
+    /// A move that paints nothing.
+    Move,
+    /// The aperture's shape.
+    Flash,
+}
+
+/// How a stroke leads to its end.
+#[derive(Clone, Copy, Debug, PartialEq, Eq)]
+pub enum Mode {
+    Linear,
+    Clockwise,
+    Counterclockwise,
+}
+
+/// Counts and steps of a repeat. The steps are in nanometres.
+#[derive(Clone, Copy, Debug, PartialEq, Eq)]
+pub struct Repeat {
+    pub columns: u32,
+    pub rows: u32,
+    pub dx: u128,
+    pub dy: u128,
+}
+
+/// The text of an aperture: a template's name and its values.
+#[derive(Drop)]
+pub struct Template {
+    bytes: Vec<u8>,
+}
+
+impl Model for Template {
+    ghost use Rattle.std.specs.Prelude.{List, ℕ};
+
+    ghost Value = { List ℕ };
+
+    ghost view = { λ t. t.bytes.items };
+}
+
+impl Template {
+    ghost use Rattle.std.specs.Prelude.{◌≡◌};
+
+    /// The template with this text.
+    pub fn of(bytes: Vec<u8>) -> Template
+        ensures { result ≡ bytes.items }
+    {
+        Template { bytes }
+    }
+
+    /// Its text.
+    pub fn text(&self) -> &[u8]
+        ensures { result.now ≡ self.now }
+    {
+        &self.bytes
+    }
+}
+
+/// The words of an operation.
+#[derive(Clone, Copy, Debug, PartialEq, Eq)]
+pub struct Operation {
+    pub mode: Option<Mode>,
+    pub x: Option<Digits>,
+    pub y: Option<Digits>,
+    pub i: Option<Digits>,
+    pub j: Option<Digits>,
+    pub act: Option<Act>,
+}
+
+/// What a command says.
+#[derive(Drop)]
+pub enum Said {
+    Format {
+        format: Format,
+    },
+    Unit {
+        unit: Unit,
+    },
+    Polarity {
+        dark: bool,
+    },
+    Mirror {
+        mirror: Mirror,
+    },
+    /// An angle in millionths of a degree, counterclockwise.
+    Rotation {
+        angle: u32,
+    },
+    Mode {
+        mode: Mode,
+    },
+    Define {
+        number: u32,
+        template: Template,
+    },
+    /// No number where none such can be defined.
+    Select {
+        number: Option<u32>,
+    },
+    /// A repeat opens. The steps are in 10^-9 of the unit.
+    Open {
+        columns: u32,
+        rows: u32,
+        dx: u128,
+        dy: u128,
+    },
+    /// The open repeat closes.
+    Close,
+    Operate {
+        operation: Operation,
+    },
+    /// No effect.
+    Ignored,
+    NotBuiltYet,
+    Unsupported,
+    End,
+}
