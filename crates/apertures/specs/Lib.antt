@@ -1,0 +1,4 @@
+pub mod Texts
+pub mod Figures
+pub mod Defined
+pub mod Placed

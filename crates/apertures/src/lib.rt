@@ -1,2 +1,17 @@
-//! To be written.
+//! The apertures of a Gerber file: what the text of a definition stands for, and the shape of an aperture
+//! at a place, mirrored and turned. Circles and obrounds are built, with round holes. The commands of a
+//! file are no matter of this crate; a further template adds cases to specs/Texts and specs/Defined.
 #![tactic(auto)]
+
+mod aperture;
+mod place;
+mod templates;
+mod texts;
+
+pub use aperture::{Aperture, ApertureError, Unit, stroke};
+pub use place::{Mirror, shape_at};
+pub use templates::define;
+pub use texts::length_of;
+
+#[cfg(test)]
+mod tests;

@@ -1,4 +1,8 @@
-use crate::{NumError, SignMark, cut_decimal, read_decimal, split_decimal, write_fixed6};
+use crate::{
+    NumError, SignMark, cosine, cut_decimal, isqrt, read_decimal, rotate, round_div, sine,
+    split_decimal, write_fixed6,
+};
+use board_base::Point;
 use std::alloc::Global;
 use std::process::Abort;
 use std::test::Fail;
@@ -74,4 +78,101 @@ fn millionths_are_written(rt: HostRuntime) -> Result<(), Fail> {
         b"X-9223372036854.775808".as_slice()
     );
     Ok(())
+}
+
+#[test]
+fn roots_are_cut(rt: HostRuntime) {
+    for (n, root) in [
+        (0_u128, 0_u128),
+        (1, 1),
+        (3, 1),
+        (4, 2),
+        (99, 9),
+        (100, 10),
+        (u128::MAX, (1 << 64) - 1),
+    ] {
+        assert_eq!(rt; isqrt(n), root, "of {n}");
+    }
+}
+
+fn rounds(rt: &impl Abort, a: i128, b: i128, expected: i128) {
+    assert!(rt; b > 0);
+    assert_eq!(rt; round_div(a, b), expected, "{a} by {b}");
+}
+
+#[test]
+fn quotients_are_rounded_away_from_zero(rt: HostRuntime) {
+    for (a, b, q) in [
+        (4_i128, 3_i128, 1_i128),
+        (5, 3, 2),
+        (5, 2, 3),
+        (0, 7, 0),
+        (1, 3, 0),
+        (499, 1000, 0),
+        (500, 1000, 1),
+    ] {
+        rounds(&rt, a, b, q);
+        rounds(&rt, -a, b, -q);
+    }
+    rounds(&rt, i128::MIN, 1, i128::MIN);
+    rounds(&rt, i128::MAX, i128::MAX, 1);
+    rounds(&rt, i128::MAX, 2, 1 << 126);
+}
+
+// The sines and cosines of these angles were worked out by another program from the rule alone.
+#[test]
+fn sines_follow_the_rule(rt: HostRuntime) {
+    for (angle, s, c) in [
+        (0_i64, 0_i64, 1_000_000_000_000_i64),
+        (1, 17_453, 1_000_000_000_000),
+        (-1, -17_453, 1_000_000_000_000),
+        (30_000_000, 500_000_000_022, 866_025_404_209),
+        (45_000_000, 707_106_782_938, 707_106_805_682),
+        (45_000_001, 707_106_818_023, 707_106_770_597),
+        (60_000_000, 866_025_404_209, 500_000_000_022),
+        (90_000_000, 1_000_000_000_000, 0),
+        (123_456_789, 834_301_842_792, -551_307_933_283),
+        (180_000_000, 0, -1_000_000_000_000),
+        (210_000_000, -500_000_000_022, -866_025_404_209),
+        (270_000_000, -1_000_000_000_000, 0),
+        (330_000_000, -500_000_000_022, 866_025_404_209),
+        (360_000_000, 0, 1_000_000_000_000),
+        (-90_000_000, -1_000_000_000_000, 0),
+        (i64::MIN, -816_901_440_574, 576_777_288_031),
+        (i64::MAX, 816_901_430_508, 576_777_302_287),
+    ] {
+        assert_eq!(rt; (sine(angle), cosine(angle)), (s, c), "of {angle}");
+    }
+}
+
+// In nanometres; the last value of each row is the point, or none past 500 mm.
+#[test]
+fn points_are_turned(rt: HostRuntime) {
+    for (x, y, angle, turned) in [
+        (
+            500_000_i64,
+            0_i64,
+            90_000_000_i64,
+            Some((0_i64, 500_000_i64)),
+        ),
+        (500_000, 0, 30_000_000, Some((433_013, 250_000))),
+        (3, 5, 180_000_000, Some((-3, -5))),
+        (-1_000_001, 2, 45_000_000, Some((-707_109, -707_106))),
+        (1_000_000, 0, -30_000_000, Some((866_025, -500_000))),
+        (500_000_000, 0, 0, Some((500_000_000, 0))),
+        (0, -500_000_000, 90_000_000, Some((500_000_000, 0))),
+        (600_000_000, 0, 45_000_000, Some((424_264_083, 424_264_070))),
+        (600_000_000, 0, 0, None),
+        (500_000_001, 0, 0, None),
+        (0, -500_000_001, 0, None),
+        (353_553_391, 353_553_391, 45_000_000, None),
+        (i64::MIN, i64::MAX, 1, None),
+    ] {
+        let expected = turned.map(|(x, y)| Point { x, y });
+        assert_eq!(rt;
+            rotate(Point { x, y }, angle),
+            expected,
+            "({x}, {y}) by {angle}"
+        );
+    }
 }

@@ -1,0 +1,133 @@
+//! Reading the texts of apertures.
+ghost use Rattle.std.specs.Prelude.{◌≡◌, ◌≤ℤ◌, ◌⊎◌, [], ◌∷◌, ◌++◌, pos, MatchResult, IfOk, OnOk, Ok, Err};
+ghost use Rattle.std.specs.List.{All, position, position_or_len};
+ghost use Rattle.shape_parts.specs.Parts.{IsWidth};
+ghost use Rattle.apertures.specs.declared.aperture.ApertureError.TheVariants.{Memory};
+ghost use Rattle.apertures.specs.Texts.{is_comma, is_times, IsSize, named as named_of, template_of as template_in, size_of as size_in, sizes_in as sizes_between, sizes_behind as sizes_of_text, length_of as length_of_size, width_of as width_of_size};
+
+use crate::aperture::{ApertureError, Unit};
+use fixed_num::{cut_decimal, round_div};
+use std::alloc::{AllocError, Global};
+
+// The templates that are built.
+#[derive(Clone, Copy, Debug, PartialEq, Eq)]
+pub(crate) enum Template {
+    // `C`
+    Circle,
+    // `O`
+    Obround,
+}
+
+// The template of a name.
+fn named(name: &[u8]) -> Result<Template, ApertureError>
+    ensures { MatchResult result (λ t. named_of name.now ≡ Ok t) (λ e. named_of name.now ≡ Err e) }
+{
+    match name {
+        [] => Err(ApertureError::Syntax),
+        [b'C'] => Ok(Template::Circle),
+        [b'O'] => Ok(Template::Obround),
+        _ => Err(ApertureError::NotBuiltYet),
+    }
+}
+
+// How far it is to the first comma, or to the end.
+fn name_length(bytes: &[u8]) -> usize
+    ensures { result ≡ position_or_len is_comma bytes.now }
+{
+    bytes.iter().position(|b| *b == b',').unwrap_or(bytes.len())
+}
+
+// The template of a text.
+#[tactic(auto, unfolding(crate::specs::Texts::template_of))]
+pub(crate) fn template_of(bytes: &[u8]) -> Result<Template, ApertureError>
+    ensures { MatchResult result (λ t. template_in bytes.now ≡ Ok t) (λ e. template_in bytes.now ≡ Err e) }
+{
+    named(&bytes[..name_length(bytes)])
+}
+
+// The size that a text writes, in 10^-9 of the file's unit.
+#[tactic(auto, unfolding(crate::specs::Texts::size_of))]
+fn size_of(text: &[u8]) -> Result<u128, ApertureError>
+    ensures value { MatchResult result (λ size. size_in text.now ≡ Ok size) (λ e. size_in text.now ≡ Err e) }
+    ensures bound { IfOk result IsSize }
+{
+    match cut_decimal(text, 9) {
+        Ok(value) if value >= 0 => Ok(value as u128),
+        _ => Err(ApertureError::Syntax),
+    }
+}
+
+// The place of the first letter X.
+fn times_in(bytes: &[u8]) -> Option<usize>
+    ensures { result ≡ position is_times bytes.now }
+{
+    bytes.iter().position(|b| *b == b'X')
+}
+
+// Adds a size at the end.
+fn add(sizes: &mut Vec<u128>, size: u128) -> Result<(), AllocError>
+    ensures { OnOk result (sizes.new.items ≡ sizes.old.items ++ size ∷ []) }
+{
+    sizes.push(size)?;
+    Ok(())
+}
+
+// The sizes with the letter X between them.
+#[tactic(auto, unfolding(crate::specs::Texts::sizes_in))]
+fn sizes_in(alloc: Global, bytes: &[u8]) -> Result<Vec<u128>, ApertureError>
+    ensures value { MatchResult result (λ sizes. sizes_between bytes.now ≡ Ok sizes.items)
+        (λ e. (e ≡ Memory) ⊎ (sizes_between bytes.now ≡ Err e)) }
+    ensures bound { IfOk result (λ sizes. All IsSize sizes.items) }
+{
+    let mut sizes = Vec::new(alloc);
+    let mut rest = bytes;
+    while let Some(i) = times_in(rest) {
+        add(&mut sizes, size_of(&rest[..i])?)?;
+        rest = &rest[i + 1..];
+    }
+    add(&mut sizes, size_of(rest)?)?;
+    Ok(sizes)
+}
+
+// The sizes of a text.
+#[tactic(auto, unfolding(crate::specs::Texts::sizes_behind))]
+pub(crate) fn sizes_behind(alloc: Global, bytes: &[u8]) -> Result<Vec<u128>, ApertureError>
+    ensures value { MatchResult result (λ sizes. sizes_of_text bytes.now ≡ Ok sizes.items)
+        (λ e. (e ≡ Memory) ⊎ (sizes_of_text bytes.now ≡ Err e)) }
+    ensures bound { IfOk result (λ sizes. All IsSize sizes.items) }
+{
+    let name = name_length(bytes);
+    if name < bytes.len() {
+        sizes_in(alloc, &bytes[name + 1..])
+    } else {
+        sizes_in(alloc, &[])
+    }
+}
+
+/// A size in 10^-9 of a unit, in whole nanometres: the nearest, half up.
+#[tactic(auto, unfolding(crate::specs::Texts::length_of))]
+pub fn length_of(size: u128, unit: Unit) -> i128
+    requires { IsSize size }
+    ensures value { result ≡ length_of_size unit size }
+    ensures low { pos 0 ≤ℤ result }
+{
+    match unit {
+        Unit::Mm => round_div(size as i128, 1_000),
+        Unit::Inch => round_div(size as i128 * 254, 10_000),
+    }
+}
+
+// A size as a length of at most a metre.
+#[tactic(auto, unfolding(crate::specs::Texts::width_of))]
+pub(crate) fn width_of(size: u128, unit: Unit) -> Result<i64, ApertureError>
+    requires { IsSize size }
+    ensures value { MatchResult result (λ d. width_of_size unit size ≡ Ok d) (λ e. width_of_size unit size ≡ Err e) }
+    ensures width { IfOk result IsWidth }
+{
+    let length = length_of(size, unit);
+    if length <= 1_000_000_000 {
+        Ok(length as i64)
+    } else {
+        Err(ApertureError::OutOfRange)
+    }
+}
