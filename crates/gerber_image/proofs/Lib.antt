@@ -1,1 +1,5 @@
 pub mod NumeralLaws
+pub mod PlaceLaws
+pub mod FigureLaws
+pub mod FlashLaws
+pub mod Copies

@@ -1,17 +1,17 @@
 -- What extended commands say. The text is without its star and without line breaks.
 use Rattle.std.specs.Prelude.{ℕ, ℤ, pos, ◌+◌, ◌-◌, ◌*◌, ◌%◌, ◌≤ℤ◌, List, [], ◌∷◌, length, take, drop, codes, Option, Some, None, is_some, Result, Ok, Err, Bool, true, false, not, if◌then◌else◌, ◌&&◌, ◌||◌, ◌==◌, nat_lt, nat_le, int_le, unsigned_abs}
 use Rattle.std.specs.Char.{is_ascii_digit, is_ascii_uppercase}
-use Rattle.std.specs.Int.{int_rem_euclid}
-use Rattle.std.specs.List.{list_all, list_any, position_or_len}
+use Rattle.std.specs.List.{list_all, list_any}
 use Rattle.std.specs.Option.{option_or}
 use Rattle.std.specs.Ordering.{int_eq}
 use Rattle.std.specs.Str.{bytes_eq}
 use Rattle.board_base.specs.Parts.{◌>>=◌}
+use Rattle.fixed_num.specs.Angles.{in_turn}
 use Rattle.fixed_num.specs.Values.{read_at, cut_at}
 use Rattle.fixed_num.specs.declared.number.NumError.{NumError}
 use Rattle.fixed_num.specs.declared.number.NumError.TheVariants.{TooFine}
-use Rattle.apertures.specs.declared.Unit.TheVariants as units
-use Rattle.apertures.specs.declared.Mirror.TheVariants as mirrors
+use Rattle.apertures.specs.declared.aperture.Unit.TheVariants as units
+use Rattle.apertures.specs.declared.place.Mirror.TheVariants as mirrors
 use Rattle.gerber_image.specs.Texts.{after, cut}
 use Rattle.gerber_image.specs.Numerals.{number_of, digits_before}
 use Rattle.gerber_image.specs.Words.{greatest}
@@ -83,10 +83,6 @@ mirror_of text =
     else if bytes_eq text (codes "LMY") then Some (says.Mirror mirrors.Y)
     else if bytes_eq text (codes "LMXY") then Some (says.Mirror mirrors.Xy)
     else None
-
--- an angle in the first turn, in millionths of a degree
-unfoldable pub in_turn : ℤ → ℕ
-in_turn angle = unsigned_abs (int_rem_euclid angle (pos 360000000))
 
 -- an angle of whole quarters
 abbrev pub quarters : ℕ → Said
@@ -162,20 +158,9 @@ repeat_of text = do
 
 -- Apertures and macros.
 
--- the name of a template: up to the first comma
-abbrev pub name_of : List ℕ → List ℕ
-name_of template = take (position_or_len (λ b. b == 44) template) template
-
--- a template with its aperture's number: only C and O are built yet, and a name there must be
-abbrev pub templated : ℕ → List ℕ → Option Said
-templated number template =
-    if bytes_eq (name_of template) (codes "C") || bytes_eq (name_of template) (codes "O") then Some (says.Define number template)
-    else if length (name_of template) == 0 then None
-    else Some says.NotBuiltYet
-
 -- an aperture's number and its template
 abbrev pub defined_in : ℕ → List ℕ → Option Said
-defined_in number template = if nat_le 10 number && nat_le number greatest then templated number template else None
+defined_in number template = if nat_le 10 number && nat_le number greatest then Some (says.Define number template) else None
 
 -- ADD, a number and a template
 unfoldable pub definition_of : List ℕ → Option Said

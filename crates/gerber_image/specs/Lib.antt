@@ -2,3 +2,9 @@ pub mod Texts
 pub mod Numerals
 pub mod Words
 pub mod Extended
+pub mod Numbers
+pub mod InForce
+pub mod Image
+pub mod Checks
+pub mod State
+pub mod Copies

@@ -137,3 +137,38 @@ pub enum Said {
     Unsupported,
     End,
 }
+
+/// Why a Gerber file has no image. The kinds stand in the order in which a command is checked.
+#[derive(Clone, Copy, Debug, PartialEq, Eq)]
+pub enum GerberKind {
+    /// No command, or one that may not stand here.
+    Syntax,
+    /// A macro, a template other than C and O, a region, an arc or a turn by a part of a quarter.
+    NotBuiltYet,
+    /// A command that is left out, or a stroke with an aperture that makes none.
+    Unsupported,
+    /// A coordinate before the format.
+    NoFormat,
+    /// A length before the unit.
+    NoUnit,
+    /// An aperture that isn't defined, or none selected.
+    NoAperture,
+    /// The end with an open repeat.
+    OpenRepeat,
+    /// A point past 500,000,000 nm, or a size past 1,000,000,000 nm.
+    OutOfRange,
+    /// More than 2^20 objects.
+    TooManyObjects,
+    /// The bytes end before the command that ends a file.
+    NoEnd,
+    /// The memory doesn't suffice.
+    Memory,
+}
+
+/// Why a Gerber file has no image, and where.
+#[derive(Clone, Copy, Debug, PartialEq, Eq)]
+pub struct GerberError {
+    pub kind: GerberKind,
+    /// The offset of the first byte of the refused command, from 0; of NoEnd the number of bytes.
+    pub at: usize,
+}

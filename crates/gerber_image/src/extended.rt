@@ -3,7 +3,8 @@ ghost use Rattle.std.specs.Prelude.{◌≡◌, ◌<◌, ◌≤◌, ◌^◌, ◌|
 ghost use Rattle.std.specs.List.{list_all, list_any, position, position_or_len};
 ghost use Rattle.std.specs.Option.{option_or};
 ghost use Rattle.std.specs.Str.{bytes_eq};
-ghost use Rattle.gerber_image.specs.Extended.{counts_of, is_count as is_count_in, is_capital_or_digit as is_capital_or_digit_in, is_other_letter as is_other_letter_in, is_other_format as is_other_format_in, known_format as known_format_of, format_in, format_of, unit_of, polarity_of, mirror_of, quarters as quarters_of, in_turn as in_turn_of, rotation_of, scale_of, count_in as count_in_of, count_of, step_of, open_of, repeat_in, repeat_of, name_of, templated as templated_of, defined_in, definition_of, macro_of, is_plain as is_plain_in, pair_of, no_rotation_of, old_of, begins as begins_in, is_note as is_note_in, note_of, setting_of, plain_of, extended_of};
+ghost use Rattle.fixed_num.specs.Angles.{in_turn as in_turn_of};
+ghost use Rattle.gerber_image.specs.Extended.{counts_of, is_count as is_count_in, is_capital_or_digit as is_capital_or_digit_in, is_other_letter as is_other_letter_in, is_other_format as is_other_format_in, known_format as known_format_of, format_in, format_of, unit_of, polarity_of, mirror_of, quarters as quarters_of, rotation_of, scale_of, count_in as count_in_of, count_of, step_of, open_of, repeat_in, repeat_of, defined_in, definition_of, macro_of, is_plain as is_plain_in, pair_of, no_rotation_of, old_of, begins as begins_in, is_note as is_note_in, note_of, setting_of, plain_of, extended_of};
 
 use crate::command::{Format, Said, Template};
 use crate::numerals::{digits_before, number};
@@ -169,7 +170,7 @@ fn mirror(text: &[u8]) -> Option<Said>
 }
 
 // An angle in the first turn.
-#[tactic(auto, unfolding(crate::specs::Extended::in_turn))]
+#[tactic(auto, unfolding(fixed_num::specs::Angles::in_turn))]
 fn in_turn(angle: i128) -> u32
     ensures { result ≡ in_turn_of angle }
 {
@@ -283,56 +284,16 @@ fn repeat(text: &[u8]) -> Option<Said>
     repeat_behind(rest)
 }
 
-// The place of the first comma.
-fn comma(text: &[u8]) -> Option<usize>
-    ensures { result ≡ position (λ b. b == 44) text.now }
-{
-    text.iter().position(|b| *b == b',')
-}
-
-// How far it is to the first comma, or to the end.
-#[tactic(auto, using(gerber_lexer::proofs::Ways::none_is_end))]
-fn name_length(template: &[u8]) -> usize
-    ensures value { result ≡ position_or_len (λ b. b == 44) template.now }
-    ensures within { result ≤ length template.now }
-{
-    match comma(template) {
-        Some(i) => i,
-        None => template.len(),
-    }
-}
-
-// The name of a template.
-fn name(template: &[u8]) -> &[u8]
-    ensures { result.now ≡ name_of template.now }
-{
-    &template[..name_length(template)]
-}
-
-// A template with its aperture's number.
-fn templated(alloc: Global, number: u32, template: &[u8]) -> Result<Option<Said>, AllocError>
-    ensures { IfOk result (λ said. said ≡ templated_of number template.now) }
-{
-    let name = name(template);
-    if name == b"C".as_slice() || name == b"O".as_slice() {
-        let bytes = template.to_vec(alloc)?;
-        return Ok(Some(Said::Define {
-            number,
-            template: Template::of(bytes),
-        }));
-    }
-    if name.is_empty() {
-        return Ok(None);
-    }
-    Ok(Some(Said::NotBuiltYet))
-}
-
 // An aperture's number and its template.
 fn defined(alloc: Global, number: u64, template: &[u8]) -> Result<Option<Said>, AllocError>
     ensures { IfOk result (λ said. said ≡ defined_in number template.now) }
 {
     if 10 <= number && number <= 2_147_483_647 {
-        templated(alloc, number as u32, template)
+        let bytes = template.to_vec(alloc)?;
+        Ok(Some(Said::Define {
+            number: number as u32,
+            template: Template::of(bytes),
+        }))
     } else {
         Ok(None)
     }

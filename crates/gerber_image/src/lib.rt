@@ -6,8 +6,14 @@
 
 mod command;
 mod extended;
+mod numbers;
 mod numerals;
+mod operate;
+mod repeat;
+mod state;
 mod texts;
 mod words;
 
-pub use command::{Act, Digits, Format, Mode, Operation, Repeat, Said, Template};
+pub use command::{
+    Act, Digits, Format, GerberError, GerberKind, Mode, Operation, Repeat, Said, Template,
+};
