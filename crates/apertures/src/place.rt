@@ -1,5 +1,5 @@
 //! Apertures at a place.
-ghost use Rattle.std.specs.Prelude.{◌≡◌, ◌⊎◌, ℤ, Some, None, MatchResult, IfSome};
+ghost use Rattle.std.specs.Prelude.{◌≡◌, ◌+ℤ◌, ◌⊎◌, ℤ, Some, None, MatchResult, IfSome};
 ghost use Rattle.board_base.specs.Places.{IsPlace, IsCoordinate};
 ghost use Rattle.shape_parts.specs.Parts.{IsPart};
 ghost use Rattle.apertures.specs.declared.aperture.ApertureError.TheVariants.{Memory, OutOfRange};
@@ -51,13 +51,20 @@ fn turned(p: Point, angle: i64) -> Option<Point>
     }
 }
 
+// The sum of two coordinates.
+fn plus(a: i64, b: i64) -> i128
+    ensures { result ≡ a +ℤ b }
+{
+    a as i128 + b as i128
+}
+
 // The point shifted.
 #[tactic(auto, unfolding(crate::specs::Placed::shifted))]
 fn shifted(p: Point, by: Point) -> Option<Point>
     ensures value { result ≡ shifted_of by p }
     ensures inside { IfSome result IsPlace }
 {
-    point_at(p.x as i128 + by.x as i128, p.y as i128 + by.y as i128)
+    point_at(plus(p.x, by.x), plus(p.y, by.y))
 }
 
 // Where a point of a shape at the origin comes to.

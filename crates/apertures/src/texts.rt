@@ -1,6 +1,6 @@
 //! Reading the texts of apertures.
-ghost use Rattle.std.specs.Prelude.{◌≡◌, ◌≤ℤ◌, ◌⊎◌, [], ◌∷◌, ◌++◌, pos, MatchResult, IfOk, OnOk, Ok, Err};
-ghost use Rattle.std.specs.List.{All, position, position_or_len};
+ghost use Rattle.std.specs.Prelude.{◌≡◌, ◌<◌, ◌+◌, ◌≤ℤ◌, ◌⊎◌, [], ◌∷◌, ◌++◌, length, take, drop, pos, MatchResult, MatchOption, IfOk, IfSome, OnOk, Ok, Err};
+ghost use Rattle.std.specs.List.{All, position, before_first, after_first, slice_split};
 ghost use Rattle.shape_parts.specs.Parts.{IsWidth};
 ghost use Rattle.apertures.specs.declared.aperture.ApertureError.TheVariants.{Memory};
 ghost use Rattle.apertures.specs.Texts.{is_comma, is_times, IsSize, named as named_of, template_of as template_in, size_of as size_in, sizes_in as sizes_between, sizes_behind as sizes_of_text, length_of as length_of_size, width_of as width_of_size};
@@ -30,11 +30,31 @@ fn named(name: &[u8]) -> Result<Template, ApertureError>
     }
 }
 
-// How far it is to the first comma, or to the end.
-fn name_length(bytes: &[u8]) -> usize
-    ensures { result ≡ position_or_len is_comma bytes.now }
+// The place of the first comma.
+fn comma_in(bytes: &[u8]) -> Option<usize>
+    ensures { result ≡ position is_comma bytes.now }
 {
-    bytes.iter().position(|b| *b == b',').unwrap_or(bytes.len())
+    bytes.iter().position(|b| *b == b',')
+}
+
+// What stands before the first comma, or all.
+fn name_of(bytes: &[u8]) -> &[u8]
+    ensures { result.now ≡ before_first is_comma bytes.now }
+{
+    match comma_in(bytes) {
+        Some(i) => &bytes[..i],
+        None => bytes,
+    }
+}
+
+// What stands behind the first comma, or nothing.
+fn behind_name(bytes: &[u8]) -> &[u8]
+    ensures { result.now ≡ after_first is_comma bytes.now }
+{
+    match comma_in(bytes) {
+        Some(i) => &bytes[i + 1..],
+        None => &[],
+    }
 }
 
 // The template of a text.
@@ -42,7 +62,7 @@ fn name_length(bytes: &[u8]) -> usize
 pub(crate) fn template_of(bytes: &[u8]) -> Result<Template, ApertureError>
     ensures { MatchResult result (λ t. template_in bytes.now ≡ Ok t) (λ e. template_in bytes.now ≡ Err e) }
 {
-    named(&bytes[..name_length(bytes)])
+    named(name_of(bytes))
 }
 
 // The size that a text writes, in 10^-9 of the file's unit.
@@ -72,6 +92,34 @@ fn add(sizes: &mut Vec<u128>, size: u128) -> Result<(), AllocError>
     Ok(())
 }
 
+// What stands before place `i`.
+fn before(bytes: &[u8], i: usize) -> &[u8]
+    requires { i < length bytes.now }
+    ensures { result.now ≡ take i bytes.now }
+{
+    &bytes[..i]
+}
+
+// What stands behind place `i`.
+fn behind(bytes: &[u8], i: usize) -> &[u8]
+    requires { i < length bytes.now }
+    ensures { result.now ≡ drop (i + 1) bytes.now }
+{
+    &bytes[i + 1..]
+}
+
+// What stands before the first letter X, and what stands behind it.
+fn split_once(bytes: &[u8]) -> Option<(&[u8], &[u8])>
+    ensures parts { MatchOption result (slice_split is_times bytes.now ≡ bytes.now ∷ [])
+        (λ found. slice_split is_times bytes.now ≡ found.0.now ∷ slice_split is_times found.1.now) }
+    ensures shorter { IfSome result (λ found. length found.1.now < length bytes.now) }
+{
+    match times_in(bytes) {
+        Some(i) => Some((before(bytes, i), behind(bytes, i))),
+        None => None,
+    }
+}
+
 // The sizes with the letter X between them.
 #[tactic(auto, unfolding(crate::specs::Texts::sizes_in))]
 fn sizes_in(alloc: Global, bytes: &[u8]) -> Result<Vec<u128>, ApertureError>
@@ -81,11 +129,13 @@ fn sizes_in(alloc: Global, bytes: &[u8]) -> Result<Vec<u128>, ApertureError>
 {
     let mut sizes = Vec::new(alloc);
     let mut rest = bytes;
-    while let Some(i) = times_in(rest) {
-        add(&mut sizes, size_of(&rest[..i])?)?;
-        rest = &rest[i + 1..];
+    'texts: while let Some((text, others)) = split_once(rest) {
+        let size = size_of(text)?;
+        add(&mut sizes, size)?;
+        rest = others;
     }
-    add(&mut sizes, size_of(rest)?)?;
+    let size = size_of(rest)?;
+    add(&mut sizes, size)?;
     Ok(sizes)
 }
 
@@ -96,12 +146,7 @@ pub(crate) fn sizes_behind(alloc: Global, bytes: &[u8]) -> Result<Vec<u128>, Ape
         (λ e. (e ≡ Memory) ⊎ (sizes_of_text bytes.now ≡ Err e)) }
     ensures bound { IfOk result (λ sizes. All IsSize sizes.items) }
 {
-    let name = name_length(bytes);
-    if name < bytes.len() {
-        sizes_in(alloc, &bytes[name + 1..])
-    } else {
-        sizes_in(alloc, &[])
-    }
+    sizes_in(alloc, behind_name(bytes))
 }
 
 /// A size in 10^-9 of a unit, in whole nanometres: the nearest, half up.

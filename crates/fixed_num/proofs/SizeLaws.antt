@@ -1,6 +1,6 @@
 -- How large the numbers are that are read.
-use Rattle.std.proofs.Common.{◌≡◌, refl, ℕ, zero, suc, ◌+◌, ◌*◌, ◌-◌, ◌<◌, ◌≤◌, ◌^◌, ℤ, pos, neg_ℤ, List, [], ◌∷◌, ◌++◌, Option, Some, None, Bool, true, false, cond, Result, Ok, Err, length, take, arith, ap, sym, ◌∙◌, subst}
-use Rattle.std.specs.Prelude.{unsigned_abs, nat_lt, min}
+use Rattle.std.proofs.Common.{◌≡◌, refl, ℕ, zero, suc, ◌+◌, ◌*◌, ◌-◌, ◌<◌, ◌≤◌, ◌^◌, List, [], ◌∷◌, ◌++◌, Some, None, Bool, true, false, cond, Result, Ok, Err, length, take, arith, sym, ◌∙◌, subst}
+use Rattle.std.specs.Prelude.{unsigned_abs, nat_lt}
 use Rattle.std.specs.Str.Parse.{AllDigits, digits_value}
 use Rattle.std.proofs.lemmas.Grind.{common_steps}
 use Rattle.std.proofs.lemmas.Int.Digits.{digits_value-lt}
@@ -12,8 +12,7 @@ use Rattle.fixed_num.specs.Decimal.{Sign, none, plus, minus, signed, Decimal, fr
 use Rattle.fixed_num.specs.Spelled.{parts_of, is_decimal, decimal_of}
 use Rattle.fixed_num.specs.Values.{a_number, not_long, short_of, cut_at}
 use Rattle.fixed_num.specs.Sizes.{SizeLaw}
-use Rattle.fixed_num.specs.declared.number.NumError.{NumError}
-use Rattle.fixed_num.specs.declared.number.NumError.TheVariants.{NotNumber, TooLong}
+use Rattle.fixed_num.specs.declared.number.NumError.TheVariants.{TooLong}
 use Rattle.fixed_num.proofs.DigitLaws.{all_taken, thirty}
 use Rattle.fixed_num.proofs.SpelledLaws.{from_test}
 

@@ -1,5 +1,5 @@
 -- Sine, cosine and turns. An angle is in millionths of a degree, counterclockwise, and a sine in 10^-12.
-use Rattle.std.specs.Prelude.{ℕ, zero, suc, ◌+◌, ◌-◌, ◌*◌, ◌/◌, ◌%◌, ℤ, pos, neg_ℤ, ◌+ℤ◌, ◌-ℤ◌, ◌*ℤ◌, unsigned_abs, nat_le, Bool, if◌then◌else◌, ◌&&◌, ◌==◌, Option, Some, None}
+use Rattle.std.specs.Prelude.{ℕ, zero, suc, ◌-◌, ◌*◌, ◌/◌, ◌%◌, ℤ, pos, neg_ℤ, ◌+ℤ◌, ◌-ℤ◌, ◌*ℤ◌, unsigned_abs, nat_le, Bool, if◌then◌else◌, ◌&&◌, ◌==◌, Option, Some, None}
 use Rattle.std.specs.Int.{int_rem_euclid}
 use Rattle.board_base.specs.declared.places.Point.{Point}
 use Rattle.fixed_num.specs.Rounding.{round_div_of}

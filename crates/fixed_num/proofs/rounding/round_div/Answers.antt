@@ -1,4 +1,4 @@
-use Rattle.std.proofs.Common.{arith, rules}
+use Rattle.std.proofs.Common.{rules}
 use Rattle.fixed_num.specs.Rounding.{round_div_of}
 use Rattle.fixed_num.proofs.RoundingLaws.{nearest_of}
 use Rattle.fixed_num.proofs.rounding.round_div.Goals as goal

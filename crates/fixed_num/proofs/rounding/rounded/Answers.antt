@@ -1,4 +1,4 @@
-use Rattle.std.proofs.Common.{arith, ◌/◌, ◌%◌}
+use Rattle.std.proofs.Common.{◌/◌, ◌%◌}
 use Rattle.std.proofs.lemmas.Nat.{div-add-mod'}
 use Rattle.fixed_num.proofs.RoundingLaws.{rounds_up, rounds_down, rest_below}
 use Rattle.fixed_num.proofs.rounding.rounded.Goals as goal

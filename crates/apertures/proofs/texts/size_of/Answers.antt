@@ -1,0 +1,8 @@
+use Rattle.std.proofs.Common.{arith, pos}
+use Rattle.std.specs.Prelude.{unsigned_abs}
+use borrow.Author.Differences.{ints}
+use Rattle.fixed_num.proofs.SizeLaws.{cut_small}
+use Rattle.apertures.proofs.texts.size_of.Goals as goal
+
+pub returns-in-Ok-clause-bound : goal.returns-in-Ok-clause-bound
+returns-in-Ok-clause-bound c = omega (arith, ints, cut_small 9 c.args.text.now c.in-Ok.value (omega arith) c.in-Ok.ensures)
