@@ -1,7 +1,7 @@
 -- The parts of apertures, and of their shapes at a place.
 use Rattle.std.proofs.Common.{◌≡◌, refl, ℕ, ◌<◌, ◌≤◌, ◌^◌, ◌+◌, ℤ, pos, ◌≤ℤ◌, List, [], ◌∷◌, length, Bool, true, false, Option, Some, None, IfSome, Result, Ok, Err, arith, ap, sym, ◌∙◌}
-use Rattle.std.specs.Prelude.{int_lt, int_le, cond}
-use Rattle.std.specs.List.{All, AllByRecursion}
+use Rattle.std.specs.Prelude.{int_lt, int_le, cond, ◌==◌}
+use Rattle.std.specs.List.{before_first}
 use Rattle.std.proofs.lemmas.Int.{ints}
 use Rattle.std.proofs.lemmas.List.Elements.{All-cons, All-nil}
 use Rattle.board_base.specs.Steps.{◌>>=◌}
@@ -13,12 +13,11 @@ use Rattle.shape_parts.specs.declared.shape.Part.TheVariants.{Disc, Capsule}
 use Rattle.shape_parts.specs.declared.shape.Piece.{Piece}
 use Rattle.fixed_num.specs.Rounding.{round_div_of}
 use Rattle.apertures.specs.declared.aperture.ApertureError.{ApertureError}
+use Rattle.apertures.specs.declared.aperture.ApertureError.TheVariants.{NotBuiltYet}
 use Rattle.apertures.specs.declared.aperture.Unit.{Unit}
 use Rattle.apertures.specs.declared.aperture.Unit.TheVariants.{Mm, Inch}
-use Rattle.apertures.specs.declared.texts.Template.{Template}
-use Rattle.apertures.specs.declared.texts.Template.TheVariants.{Circle, Obround}
 use Rattle.apertures.specs.Figures.{Figure}
-use Rattle.apertures.specs.Texts.{template_of, sizes_behind, length_of, in_metre, width_of}
+use Rattle.apertures.specs.Texts.{is_comma, named, template_of, sizes_behind, length_of, in_metre, width_of}
 use Rattle.apertures.specs.Defined.{capsule, circle_of, obround_of, figure_of, defined}
 use Rattle.gerber_image.specs.State.{part_width, HasWidth, IsBuilt}
 
@@ -60,7 +59,7 @@ circle_built unit (a ∷ []) f e =
 circle_built unit (a ∷ b ∷ []) f e =
     let (d, hd, he) = step (width_of unit a) _ f e in
     let (c, hc, hf) = step (width_of unit b) _ f he in
-    built_from _ f (record { few = omega arith; widths = (width unit a d hd, width unit b c hc, tt) }) hf
+    built_from _ f (record { few = omega arith; widths = (width unit a d hd, (width unit b c hc, tt)) }) hf
 circle_built unit (a ∷ b ∷ c ∷ []) f e = absurd cc
 circle_built unit (a ∷ b ∷ c ∷ d ∷ rest) f e = absurd cc
 
@@ -75,18 +74,27 @@ obround_built unit (a ∷ b ∷ c ∷ []) f e =
     let (w, hw, he) = step (width_of unit a) _ f e in
     let (h, hh, hf) = step (width_of unit b) _ f he in
     let (i, hi, hg) = step (width_of unit c) _ f hf in
-    built_from _ f (record { few = omega arith; widths = (capsule_width w h (width unit a w hw) (width unit b h hh), width unit c i hi, tt) }) hg
+    built_from _ f (record { few = omega arith; widths = (capsule_width w h (width unit a w hw) (width unit b h hh), (width unit c i hi, tt)) }) hg
 obround_built unit (a ∷ b ∷ c ∷ d ∷ []) f e = absurd cc
 obround_built unit (a ∷ b ∷ c ∷ d ∷ x ∷ rest) f e = absurd cc
 
-figure_built : (template : Template) (unit : Unit) (sizes : List ℕ) (f : Figure) → figure_of template unit sizes ≡ Ok f → IsBuilt f
-figure_built Circle unit sizes f e = circle_built unit sizes f e
-figure_built Obround unit sizes f e = obround_built unit sizes f e
+-- by the name of the template
+by_name : (name : List ℕ) (sizes : Result (List ℕ) ApertureError) (unit : Unit) (f : Figure) → (named name >>= (λ template. sizes >>= (λ s. figure_of template unit s))) ≡ Ok f → IsBuilt f
+by_name [] sizes unit f e = absurd cc
+by_name (b ∷ c ∷ name) sizes unit f e = absurd cc
+by_name (b ∷ []) sizes unit f e = by_bool (b == 67)
+    (λ t.
+    let circle : (sizes >>= (λ s. circle_of unit s)) ≡ Ok f = rw t at e in
+    let (s, hs, hf) = step sizes _ f circle in
+    circle_built unit s f hf)
+    (λ g. by_bool (b == 79)
+    (λ t.
+    let obround : (sizes >>= (λ s. obround_of unit s)) ≡ Ok f = rw (g, t) at e in
+    let (s, hs, hf) = step sizes _ f obround in
+    obround_built unit s f hf)
+    (λ h. let none : ◌≡◌ {A = Result Figure ApertureError} (Err NotBuiltYet) (Ok f) = rw (g, h) at e in absurd cc))
 
 -- an aperture that is defined has one part or two, with widths that a shape may hold
 pub is_built : (unit : Unit) (bytes : List ℕ) (f : Figure) → defined unit bytes ≡ Ok f → IsBuilt f
-unfolding defined
-is_built unit bytes f e =
-    let (template, ht, he) = step (template_of bytes) _ f e in
-    let (sizes, hs, hf) = step (sizes_behind bytes) _ f he in
-    figure_built template unit sizes f hf
+unfolding defined template_of
+is_built unit bytes f e = by_name (before_first is_comma bytes) (sizes_behind bytes) unit f e

@@ -1,10 +1,11 @@
 -- Shapes at a place.
 use Rattle.std.proofs.Common.{◌≡◌, refl, ℕ, ◌<◌, ◌≤◌, ◌^◌, ◌+◌, ℤ, List, [], ◌∷◌, length, Option, Some, None, IfSome, arith, ap, sym, ◌∙◌}
 use Rattle.std.specs.List.{All, AllByRecursion}
+use Rattle.std.proofs.lemmas.Int.{ints}
 use Rattle.std.proofs.lemmas.List.Elements.{All-cons, All-nil}
 use Rattle.board_base.specs.Parts.{◌>>=◌}
 use Rattle.board_base.specs.declared.places.Point.{Point}
-use Rattle.board_base.specs.Places.{IsPlace, IsCoordinate, IsNearPlace}
+use Rattle.board_base.specs.Places.{IsPlace, IsCoordinate, IsNearCoordinate, IsNearPlace}
 use Rattle.shape_parts.specs.Parts.{IsWidth, IsPiece, IsPart}
 use Rattle.shape_parts.specs.declared.shape.Part.{Part}
 use Rattle.shape_parts.specs.declared.shape.Part.TheVariants.{Disc, Capsule}
@@ -34,8 +35,11 @@ to_places place mirror angle = λ p q e.
     let (m, hm, he) = step (turned angle (mirrored mirror p)) _ q e in
     found_place _ _ q he
 
+near_coordinate : (v : ℤ) → IsCoordinate v → IsNearCoordinate v
+near_coordinate v h = record { low = grind (arith, ints, h.low); high = grind (arith, ints, h.high) }
+
 near : (p : Point) → IsPlace p → IsNearPlace p
-near p h = record { x_in = record { low = omega (arith, h.x.low); high = omega (arith, h.x.high) }; y_in = record { low = omega (arith, h.y.low); high = omega (arith, h.y.high) } }
+near p h = record { x_in = near_coordinate p.x h.x; y_in = near_coordinate p.y h.y }
 
 part_moved : (move : Point → Option Point) → ToPlaces move → (part q : Part) → moved_part move part ≡ Some q → IsWidth (part_width part) → IsPart q
 part_moved move to (Disc c d) q e w =

@@ -3,3 +3,5 @@ pub mod PlaceLaws
 pub mod FigureLaws
 pub mod FlashLaws
 pub mod Copies
+pub mod ShapeLaws
+pub mod ReadyLaws

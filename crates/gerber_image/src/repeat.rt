@@ -14,6 +14,14 @@ use board_base::Point;
 use shape_parts::{Painted, Part, Shape};
 use std::alloc::{AllocError, Global};
 
+// A coordinate that is shifted.
+fn plus(v: i64, by: u128) -> i128
+    requires { by < 2 ^ 120 }
+    ensures { result ≡ v +ℤ pos by }
+{
+    v as i128 + by as i128
+}
+
 // A point that is shifted, unless it leaves the range.
 fn shifted_point(p: Point, dx: u128, dy: u128) -> Option<Point>
     requires dx { dx < 2 ^ 120 }
@@ -21,7 +29,7 @@ fn shifted_point(p: Point, dx: u128, dy: u128) -> Option<Point>
     ensures { MatchOption result (is_far (at (p.x +ℤ pos dx) (p.y +ℤ pos dy)) ≡ true)
         (λ q. (is_far (at (p.x +ℤ pos dx) (p.y +ℤ pos dy)) ≡ false) × (q ≡ at (p.x +ℤ pos dx) (p.y +ℤ pos dy)) × IsPlace q) }
 {
-    point(p.x as i128 + dx as i128, p.y as i128 + dy as i128)
+    point(plus(p.x, dx), plus(p.y, dy))
 }
 
 // A part that is shifted, unless it leaves the range.

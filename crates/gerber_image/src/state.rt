@@ -6,7 +6,7 @@ ghost use Rattle.apertures.specs.Texts.{IsSize};
 ghost use Rattle.gerber_image.specs.InForce.{opened as opened_of, defined_under};
 ghost use Rattle.gerber_image.specs.Image.{figure_of, copies};
 ghost use Rattle.gerber_image.specs.Checks.{same_format, same_unit, is_outside, fault_of, Held};
-ghost use Rattle.gerber_image.specs.State.{kept, nothing, listed, IsSaid, IsReady, IsBuilt, IsRepeat, block_fault, Stops, Steps};
+ghost use Rattle.gerber_image.specs.State.{kept, nothing, listed, IsSaid, IsReady, IsRepeat, block_fault, Stops, Steps};
 
 use crate::command::{Act, Format, GerberKind, Mode, Repeat, Said, Template};
 use crate::numbers::step_length;
@@ -249,8 +249,7 @@ impl State {
 
     fn define(&mut self, alloc: Global, number: u32, template: &Template) -> Result<(), Stop>
         requires { IsReady (kept self.old) }
-        ensures steps { Steps (kept self.old) (Said.Define number template.now) result (kept self.new) }
-        ensures built { OnOk result ((n : ℕ) → IfSome ((kept self.new).now.aperture n) IsBuilt) }
+        ensures { Steps (kept self.old) (Said.Define number template.now) result (kept self.new) }
     {
         let aperture = self.defined(alloc, number, template)?;
         let _ = self.apertures.insert(number, aperture)?;
@@ -304,8 +303,7 @@ impl State {
     ) -> Result<(), Stop>
         requires ready { IsReady (kept self.old) }
         requires said { IsSaid (Said.Open columns rows dx dy) }
-        ensures steps { Steps (kept self.old) (Said.Open columns rows dx dy) result (kept self.new) }
-        ensures fits { OnOk result (IfSome self.new.repeat IsRepeat) }
+        ensures { Steps (kept self.old) (Said.Open columns rows dx dy) result (kept self.new) }
     {
         let Some(unit) = self.unit else {
             return Err(Stop::Fault(GerberKind::NoUnit));
