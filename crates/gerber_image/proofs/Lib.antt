@@ -5,3 +5,5 @@ pub mod FlashLaws
 pub mod Copies
 pub mod ShapeLaws
 pub mod ReadyLaws
+pub mod ReachedLaws
+pub mod OneOutcome

@@ -14,7 +14,8 @@ use Rattle.apertures.specs.Defined.{defined}
 use Rattle.gerber_image.specs.InForce.{defined_under, figure_in, step_length, opened}
 use Rattle.gerber_image.specs.Image.{at, figure_of}
 use Rattle.gerber_image.specs.Checks.{Held, fault_of, count_fault, first_fault_of}
-use Rattle.gerber_image.specs.State.{after, Steps, IsSaid, IsReady, IsRepeat, IsObject, IsBuilt, listed}
+use Rattle.gerber_image.specs.Fits.{IsSaid}
+use Rattle.gerber_image.specs.State.{after, Steps, IsReady, IsRepeat, IsObject, IsBuilt, listed}
 use Rattle.gerber_image.specs.declared.command.Format.{Format}
 use Rattle.gerber_image.specs.declared.command.Mode.{Mode}
 use Rattle.gerber_image.specs.declared.command.Operation.{Operation}

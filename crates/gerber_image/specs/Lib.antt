@@ -8,3 +8,8 @@ pub mod Image
 pub mod Checks
 pub mod State
 pub mod Copies
+pub mod Fits
+pub mod Gerber
+pub mod Answer
+pub mod Reached
+pub mod Laws

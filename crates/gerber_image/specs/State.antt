@@ -11,7 +11,6 @@ use Rattle.shape_parts.specs.declared.shape.Part.TheVariants.{Disc, Capsule}
 use Rattle.shape_parts.specs.declared.shape.Piece.{Piece}
 use Rattle.shape_parts.specs.declared.shape.Painted.{Painted}
 use Rattle.apertures.specs.Figures.{Figure}
-use Rattle.apertures.specs.Texts.{IsSize}
 use Rattle.apertures.specs.declared.place.Mirror.TheVariants as mirrors
 use Rattle.gerber_image.specs.InForce.{InForce, sets_format, sets_unit, sets_dark, sets_mirror, sets_angle, sets_mode, sets_selected, sets_act, sets_x, sets_y, sets_aperture, sets_repeat}
 use Rattle.gerber_image.specs.Image.{at, block_after, painted_after, copies}
@@ -122,12 +121,6 @@ pub record IsReady (h : Held) : Type 0 where
 abbrev pub listed : {X : Type 0} → Option X → List X
 listed None = []
 listed (Some x) = x ∷ []
-
--- a format has at most six digits on each side, a repeat at least one copy each way, and steps are sizes
-abbrev pub IsSaid : Said → Type 0
-IsSaid (says.Format f) = (f.whole ≤ 6) × (f.decimals ≤ 6)
-IsSaid (says.Open columns rows dx dy) = (0 < columns) × (columns ≤ 1000) × (0 < rows) × (rows ≤ 1000) × IsSize dx × IsSize dy
-IsSaid _ = ⊤
 
 -- what is kept at first
 abbrev pub nothing : Held

@@ -1,9 +1,11 @@
 // What extended commands say. The text is without its star and without line breaks.
-ghost use Rattle.std.specs.Prelude.{◌≡◌, ◌<◌, ◌≤◌, ◌^◌, ◌||◌, ◌&&◌, ◌==◌, not, MatchOption, Some, None, IfOk, length, take};
+ghost use Rattle.std.specs.Prelude.{◌≡◌, ◌<◌, ◌≤◌, ◌^◌, ◌||◌, ◌&&◌, ◌==◌, not, MatchOption, IfSome, Some, None, IfOk, length, take};
 ghost use Rattle.std.specs.List.{list_all, list_any, position, position_or_len};
 ghost use Rattle.std.specs.Option.{option_or};
 ghost use Rattle.std.specs.Str.{bytes_eq};
 ghost use Rattle.fixed_num.specs.Angles.{in_turn as in_turn_of};
+ghost use Rattle.apertures.specs.Texts.{IsSize};
+ghost use Rattle.gerber_image.specs.Fits.{IsSaid};
 ghost use Rattle.gerber_image.specs.Extended.{counts_of, is_count as is_count_in, is_capital_or_digit as is_capital_or_digit_in, is_other_letter as is_other_letter_in, is_other_format as is_other_format_in, known_format as known_format_of, format_in, format_of, unit_of, polarity_of, mirror_of, quarters as quarters_of, rotation_of, scale_of, count_in as count_in_of, count_of, step_of, open_of, repeat_in, repeat_of, defined_in, definition_of, macro_of, is_plain as is_plain_in, pair_of, no_rotation_of, old_of, begins as begins_in, is_note as is_note_in, note_of, setting_of, plain_of, extended_of};
 
 use crate::command::{Format, Said, Template};
@@ -29,7 +31,8 @@ fn are_counts(n: u8, m: u8, k: u8, l: u8) -> bool
 
 // One to six whole digits and two to six decimals, the same of both coordinates.
 fn counts(text: &[u8]) -> Option<Said>
-    ensures { result ≡ counts_of text.now }
+    ensures value { result ≡ counts_of text.now }
+    ensures fits { IfSome result IsSaid }
 {
     match text {
         [n, m, b'Y', k, l] => {
@@ -85,7 +88,8 @@ fn is_other_format(text: &[u8]) -> bool
 
 // Absolute coordinates without leading zeros.
 fn known_format(text: &[u8]) -> Option<Said>
-    ensures { result ≡ known_format_of text.now }
+    ensures value { result ≡ known_format_of text.now }
+    ensures fits { IfSome result IsSaid }
 {
     let rest = after(text, b"LAX")?;
     counts(rest)
@@ -93,7 +97,8 @@ fn known_format(text: &[u8]) -> Option<Said>
 
 // A format, known or another.
 fn format_behind(text: &[u8]) -> Option<Said>
-    ensures { result ≡ format_in text.now }
+    ensures value { result ≡ format_in text.now }
+    ensures fits { IfSome result IsSaid }
 {
     match known_format(text) {
         Some(said) => Some(said),
@@ -110,7 +115,8 @@ fn format_behind(text: &[u8]) -> Option<Said>
 // FS
 #[tactic(auto, unfolding(crate::specs::Extended::format_of))]
 fn format(text: &[u8]) -> Option<Said>
-    ensures { result ≡ format_of text.now }
+    ensures value { result ≡ format_of text.now }
+    ensures fits { IfSome result IsSaid }
 {
     let rest = after(text, b"FS")?;
     format_behind(rest)
@@ -118,7 +124,8 @@ fn format(text: &[u8]) -> Option<Said>
 
 // MOMM or MOIN
 fn unit(text: &[u8]) -> Option<Said>
-    ensures { result ≡ unit_of text.now }
+    ensures value { result ≡ unit_of text.now }
+    ensures fits { IfSome result IsSaid }
 {
     if text == b"MOMM".as_slice() {
         return Some(Said::Unit { unit: Unit::Mm });
@@ -131,7 +138,8 @@ fn unit(text: &[u8]) -> Option<Said>
 
 // LPD or LPC
 fn polarity(text: &[u8]) -> Option<Said>
-    ensures { result ≡ polarity_of text.now }
+    ensures value { result ≡ polarity_of text.now }
+    ensures fits { IfSome result IsSaid }
 {
     if text == b"LPD".as_slice() {
         return Some(Said::Polarity { dark: true });
@@ -163,7 +171,8 @@ fn mirror_named(text: &[u8]) -> Option<Mirror>
 
 // LMN, LMX, LMY or LMXY
 fn mirror(text: &[u8]) -> Option<Said>
-    ensures { result ≡ mirror_of text.now }
+    ensures value { result ≡ mirror_of text.now }
+    ensures fits { IfSome result IsSaid }
 {
     let mirror = mirror_named(text)?;
     Some(Said::Mirror { mirror })
@@ -179,7 +188,8 @@ fn in_turn(angle: i128) -> u32
 
 // An angle of whole quarters.
 fn quarters(angle: u32) -> Said
-    ensures { result ≡ quarters_of angle }
+    ensures value { result ≡ quarters_of angle }
+    ensures fits { IsSaid result }
 {
     if angle % 90_000_000 == 0 {
         Said::Rotation { angle }
@@ -191,7 +201,8 @@ fn quarters(angle: u32) -> Said
 // LR and an angle in degrees.
 #[tactic(auto, unfolding(crate::specs::Extended::rotation_of))]
 fn rotation(text: &[u8]) -> Option<Said>
-    ensures { result ≡ rotation_of text.now }
+    ensures value { result ≡ rotation_of text.now }
+    ensures fits { IfSome result IsSaid }
 {
     let rest = after(text, b"LR")?;
     match cut_decimal(rest, 6) {
@@ -203,7 +214,8 @@ fn rotation(text: &[u8]) -> Option<Said>
 // LS and a scale.
 #[tactic(auto, unfolding(crate::specs::Extended::scale_of))]
 fn scale(text: &[u8]) -> Option<Said>
-    ensures { result ≡ scale_of text.now }
+    ensures value { result ≡ scale_of text.now }
+    ensures fits { IfSome result IsSaid }
 {
     let rest = after(text, b"LS")?;
     match read_decimal(rest, 0) {
@@ -215,7 +227,8 @@ fn scale(text: &[u8]) -> Option<Said>
 
 // A count from 1 to 1,000.
 fn count_in(n: u64) -> Option<u32>
-    ensures { result ≡ count_in_of n }
+    ensures value { result ≡ count_in_of n }
+    ensures range { IfSome result (λ n. (0 < n) × (n ≤ 1000)) }
 {
     if 1 <= n && n <= 1_000 {
         Some(n as u32)
@@ -227,7 +240,8 @@ fn count_in(n: u64) -> Option<u32>
 // The count that digits write.
 #[tactic(auto, unfolding(crate::specs::Extended::count_of))]
 fn count(text: &[u8]) -> Option<u32>
-    ensures { result ≡ count_of text.now }
+    ensures value { result ≡ count_of text.now }
+    ensures range { IfSome result (λ n. (0 < n) × (n ≤ 1000)) }
 {
     let n = number(text)?;
     count_in(n)
@@ -236,7 +250,8 @@ fn count(text: &[u8]) -> Option<u32>
 // A step in 10^-9 of the unit, not below 0.
 #[tactic(auto, unfolding(crate::specs::Extended::step_of))]
 fn step(text: &[u8]) -> Option<u128>
-    ensures { result ≡ step_of text.now }
+    ensures value { result ≡ step_of text.now }
+    ensures size { IfSome result IsSize }
 {
     match cut_decimal(text, 9) {
         Ok(step) => { if 0 <= step { Some(step as u128) } else { None } }
@@ -247,7 +262,8 @@ fn step(text: &[u8]) -> Option<u128>
 // Counts and steps: X, Y, I and J in this order.
 #[tactic(auto, unfolding(crate::specs::Extended::open_of))]
 fn open(text: &[u8]) -> Option<Said>
-    ensures { result ≡ open_of text.now }
+    ensures value { result ≡ open_of text.now }
+    ensures fits { IfSome result IsSaid }
 {
     let rest = after(text, b"X")?;
     let (x, rest) = cut(rest, b'Y')?;
@@ -267,7 +283,8 @@ fn open(text: &[u8]) -> Option<Said>
 
 // SR alone, or with counts and steps.
 fn repeat_behind(text: &[u8]) -> Option<Said>
-    ensures { result ≡ repeat_in text.now }
+    ensures value { result ≡ repeat_in text.now }
+    ensures fits { IfSome result IsSaid }
 {
     match text {
         [] => Some(Said::Close),
@@ -278,7 +295,8 @@ fn repeat_behind(text: &[u8]) -> Option<Said>
 // SR
 #[tactic(auto, unfolding(crate::specs::Extended::repeat_of))]
 fn repeat(text: &[u8]) -> Option<Said>
-    ensures { result ≡ repeat_of text.now }
+    ensures value { result ≡ repeat_of text.now }
+    ensures fits { IfSome result IsSaid }
 {
     let rest = after(text, b"SR")?;
     repeat_behind(rest)
@@ -286,7 +304,8 @@ fn repeat(text: &[u8]) -> Option<Said>
 
 // An aperture's number and its template.
 fn defined(alloc: Global, number: u64, template: &[u8]) -> Result<Option<Said>, AllocError>
-    ensures { IfOk result (λ said. said ≡ defined_in number template.now) }
+    ensures value { IfOk result (λ said. said ≡ defined_in number template.now) }
+    ensures fits { IfOk result (λ said. IfSome said IsSaid) }
 {
     if 10 <= number && number <= 2_147_483_647 {
         let bytes = template.to_vec(alloc)?;
@@ -302,7 +321,8 @@ fn defined(alloc: Global, number: u64, template: &[u8]) -> Result<Option<Said>, 
 // ADD, a number and a template.
 #[tactic(auto, unfolding(crate::specs::Extended::definition_of))]
 fn definition(alloc: Global, text: &[u8]) -> Result<Option<Said>, AllocError>
-    ensures { IfOk result (λ said. said ≡ definition_of text.now) }
+    ensures value { IfOk result (λ said. said ≡ definition_of text.now) }
+    ensures fits { IfOk result (λ said. IfSome said IsSaid) }
 {
     let Some(rest) = after(text, b"ADD") else {
         return Ok(None);
@@ -317,7 +337,8 @@ fn definition(alloc: Global, text: &[u8]) -> Result<Option<Said>, AllocError>
 // AM and a name, which goes up to the first star.
 #[tactic(auto, unfolding(crate::specs::Extended::macro_of))]
 fn macro_named(text: &[u8]) -> Option<Said>
-    ensures { result ≡ macro_of text.now }
+    ensures value { result ≡ macro_of text.now }
+    ensures fits { IfSome result IsSaid }
 {
     let rest = after(text, b"AM")?;
     match rest {
@@ -350,7 +371,8 @@ fn is_plain(digit: u8, text: &[u8]) -> bool
 // A pair of them behind A and B.
 #[tactic(auto, unfolding(crate::specs::Extended::pair_of))]
 fn pair(start: &[u8], digit: u8, text: &[u8]) -> Option<Said>
-    ensures { result ≡ pair_of start.now digit text.now }
+    ensures value { result ≡ pair_of start.now digit text.now }
+    ensures fits { IfSome result IsSaid }
 {
     let rest = after(text, start)?;
     let (a, b) = cut(rest, b'B')?;
@@ -364,7 +386,8 @@ fn pair(start: &[u8], digit: u8, text: &[u8]) -> Option<Said>
 // IR and a 0.
 #[tactic(auto, unfolding(crate::specs::Extended::no_rotation_of))]
 fn no_rotation(text: &[u8]) -> Option<Said>
-    ensures { result ≡ no_rotation_of text.now }
+    ensures value { result ≡ no_rotation_of text.now }
+    ensures fits { IfSome result IsSaid }
 {
     let rest = after(text, b"IR")?;
     if is_plain(b'0', rest) {
@@ -376,7 +399,8 @@ fn no_rotation(text: &[u8]) -> Option<Said>
 
 // The old commands that say what holds without them.
 fn old(text: &[u8]) -> Option<Said>
-    ensures { result ≡ old_of text.now }
+    ensures value { result ≡ old_of text.now }
+    ensures fits { IfSome result IsSaid }
 {
     if text == b"IPPOS".as_slice() || text == b"ASAXBY".as_slice() {
         return Some(Said::Ignored);
@@ -414,7 +438,8 @@ fn is_note(text: &[u8]) -> bool
 
 // Notes, and blocks of apertures.
 fn note(text: &[u8]) -> Option<Said>
-    ensures { result ≡ note_of text.now }
+    ensures value { result ≡ note_of text.now }
+    ensures fits { IfSome result IsSaid }
 {
     if is_note(text) {
         return Some(Said::Ignored);
@@ -427,7 +452,8 @@ fn note(text: &[u8]) -> Option<Said>
 
 // Settings.
 fn setting(text: &[u8]) -> Option<Said>
-    ensures { result ≡ setting_of text.now }
+    ensures value { result ≡ setting_of text.now }
+    ensures fits { IfSome result IsSaid }
 {
     if let Some(said) = format(text) {
         return Some(said);
@@ -443,7 +469,8 @@ fn setting(text: &[u8]) -> Option<Said>
 
 // All but definitions.
 fn plain(text: &[u8]) -> Option<Said>
-    ensures { result ≡ plain_of text.now }
+    ensures value { result ≡ plain_of text.now }
+    ensures fits { IfSome result IsSaid }
 {
     if let Some(said) = note(text) {
         return Some(said);
@@ -468,7 +495,8 @@ fn plain(text: &[u8]) -> Option<Said>
 
 /// What an extended command says. It fails only without memory.
 pub fn extended(alloc: Global, text: &[u8]) -> Result<Option<Said>, AllocError>
-    ensures { IfOk result (λ said. said ≡ extended_of text.now) }
+    ensures value { IfOk result (λ said. said ≡ extended_of text.now) }
+    ensures fits { IfOk result (λ said. IfSome said IsSaid) }
 {
     match plain(text) {
         Some(said) => Ok(Some(said)),

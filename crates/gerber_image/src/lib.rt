@@ -9,11 +9,11 @@ mod extended;
 mod numbers;
 mod numerals;
 mod operate;
+mod reader;
 mod repeat;
 mod state;
 mod texts;
 mod words;
 
-pub use command::{
-    Act, Digits, Format, GerberError, GerberKind, Mode, Operation, Repeat, Said, Template,
-};
+pub use command::{GerberError, GerberKind};
+pub use reader::{keeps_pace, one_outcome, read_image, stays_set};

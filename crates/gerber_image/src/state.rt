@@ -6,7 +6,8 @@ ghost use Rattle.apertures.specs.Texts.{IsSize};
 ghost use Rattle.gerber_image.specs.InForce.{opened as opened_of, defined_under};
 ghost use Rattle.gerber_image.specs.Image.{figure_of, copies};
 ghost use Rattle.gerber_image.specs.Checks.{same_format, same_unit, is_outside, fault_of, Held};
-ghost use Rattle.gerber_image.specs.State.{kept, nothing, listed, IsSaid, IsReady, IsRepeat, block_fault, Stops, Steps};
+ghost use Rattle.gerber_image.specs.Fits.{IsSaid};
+ghost use Rattle.gerber_image.specs.State.{kept, nothing, listed, IsReady, IsRepeat, block_fault, Stops, Steps};
 
 use crate::command::{Act, Format, GerberKind, Mode, Repeat, Said, Template};
 use crate::numbers::step_length;

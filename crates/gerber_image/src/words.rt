@@ -1,7 +1,8 @@
 // What word commands say. The text is without its star.
-ghost use Rattle.std.specs.Prelude.{◌≡◌, ◌<◌, ◌≤◌, ◌^◌, ◌||◌, MatchOption, Some, None};
+ghost use Rattle.std.specs.Prelude.{◌≡◌, ◌<◌, ◌≤◌, ◌^◌, ◌||◌, MatchOption, IfSome, Some, None};
 ghost use Rattle.std.specs.Option.{option_or};
 ghost use Rattle.std.specs.Str.{bytes_eq};
+ghost use Rattle.gerber_image.specs.Fits.{IsSaid};
 ghost use Rattle.gerber_image.specs.Words.{code_of, code_from as code_from_of, in_reach as in_reach_of, selection_of, act_word as act_word_of, act_of, field as field_of, with_word as with_word_of, operation_of, with_mode as with_mode_of, mode_of, lone_code as lone_code_of, alone as alone_of, behind_d as behind_d_of, other_code as other_code_of, by_mode as by_mode_of, general_of, word_of};
 
 use crate::command::{Act, Digits, Mode, Operation, Said};
@@ -44,7 +45,8 @@ fn code(text: &[u8]) -> Option<(u8, &[u8])>
 
 // The aperture with a number, which may be past all that can be defined.
 fn in_reach(n: u64) -> Option<Said>
-    ensures { result ≡ in_reach_of n }
+    ensures value { result ≡ in_reach_of n }
+    ensures fits { IfSome result IsSaid }
 {
     if n < 10 {
         return None;
@@ -60,7 +62,8 @@ fn in_reach(n: u64) -> Option<Said>
 // The aperture that digits select.
 #[tactic(auto, unfolding(crate::specs::Words::selection_of))]
 fn selection(text: &[u8]) -> Option<Said>
-    ensures { result ≡ selection_of text.now }
+    ensures value { result ≡ selection_of text.now }
+    ensures fits { IfSome result IsSaid }
 {
     if !is_numeral(text) {
         return None;
@@ -119,7 +122,8 @@ fn field<'a>(text: &'a [u8], letter: &[u8]) -> Option<(Option<Digits>, &'a [u8])
 
 // An operation with at least one word.
 fn with_word(operation: Operation) -> Option<Said>
-    ensures { result ≡ with_word_of operation }
+    ensures value { result ≡ with_word_of operation }
+    ensures fits { IfSome result IsSaid }
 {
     if operation.x.is_some()
         || operation.y.is_some()
@@ -136,7 +140,8 @@ fn with_word(operation: Operation) -> Option<Said>
 // An operation: X, Y, I, J and a D word.
 #[tactic(auto, unfolding(crate::specs::Words::operation_of))]
 fn operation(mode: Option<Mode>, text: &[u8]) -> Option<Said>
-    ensures { result ≡ operation_of mode text.now }
+    ensures value { result ≡ operation_of mode text.now }
+    ensures fits { IfSome result IsSaid }
 {
     let (x, rest) = field(text, b"X")?;
     let (y, rest) = field(rest, b"Y")?;
@@ -155,7 +160,8 @@ fn operation(mode: Option<Mode>, text: &[u8]) -> Option<Said>
 
 // A mode alone, or before an operation.
 fn with_mode(mode: Mode, text: &[u8]) -> Option<Said>
-    ensures { result ≡ with_mode_of mode text.now }
+    ensures value { result ≡ with_mode_of mode text.now }
+    ensures fits { IfSome result IsSaid }
 {
     match text {
         [] => Some(Said::Mode { mode }),
@@ -177,7 +183,8 @@ fn mode(code: u8) -> Option<Mode>
 
 // A G code that stands alone.
 fn lone_code(code: u8) -> Option<Said>
-    ensures { result ≡ lone_code_of code }
+    ensures value { result ≡ lone_code_of code }
+    ensures fits { IfSome result IsSaid }
 {
     match code {
         36 | 37 => Some(Said::NotBuiltYet),
@@ -190,7 +197,8 @@ fn lone_code(code: u8) -> Option<Said>
 
 // The same with nothing behind it.
 fn alone(code: u8, text: &[u8]) -> Option<Said>
-    ensures { result ≡ alone_of code text.now }
+    ensures value { result ≡ alone_of code text.now }
+    ensures fits { IfSome result IsSaid }
 {
     match text {
         [] => lone_code(code),
@@ -200,7 +208,8 @@ fn alone(code: u8, text: &[u8]) -> Option<Said>
 
 // The aperture behind G54.
 fn behind_d(text: &[u8]) -> Option<Said>
-    ensures { result ≡ behind_d_of text.now }
+    ensures value { result ≡ behind_d_of text.now }
+    ensures fits { IfSome result IsSaid }
 {
     let rest = after(text, b"D")?;
     selection(rest)
@@ -208,7 +217,8 @@ fn behind_d(text: &[u8]) -> Option<Said>
 
 // A comment, a selection behind G54, what is left out, or a code that stands alone.
 fn other_code(code: u8, text: &[u8]) -> Option<Said>
-    ensures { result ≡ other_code_of code text.now }
+    ensures value { result ≡ other_code_of code text.now }
+    ensures fits { IfSome result IsSaid }
 {
     match code {
         4 => Some(Said::Ignored),
@@ -221,7 +231,8 @@ fn other_code(code: u8, text: &[u8]) -> Option<Said>
 // What stands behind a G.
 #[tactic(auto, unfolding(crate::specs::Words::general_of))]
 fn general(text: &[u8]) -> Option<Said>
-    ensures { result ≡ general_of text.now }
+    ensures value { result ≡ general_of text.now }
+    ensures fits { IfSome result IsSaid }
 {
     let (code, rest) = code(text)?;
     match mode(code) {
@@ -232,7 +243,8 @@ fn general(text: &[u8]) -> Option<Said>
 
 // What stands behind a D, and the whole text.
 fn operation_or_selection(text: &[u8], rest: &[u8]) -> Option<Said>
-    ensures { result ≡ option_or (operation_of None text.now) (selection_of rest.now) }
+    ensures value { result ≡ option_or (operation_of None text.now) (selection_of rest.now) }
+    ensures fits { IfSome result IsSaid }
 {
     match operation(None, text) {
         Some(said) => Some(said),
@@ -242,7 +254,8 @@ fn operation_or_selection(text: &[u8], rest: &[u8]) -> Option<Said>
 
 /// What a word command says.
 pub fn word(text: &[u8]) -> Option<Said>
-    ensures { result ≡ word_of text.now }
+    ensures value { result ≡ word_of text.now }
+    ensures fits { IfSome result IsSaid }
 {
     match text {
         [] => None,
