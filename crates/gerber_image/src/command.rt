@@ -1,5 +1,7 @@
-// What commands say.
+// What commands say, and why a file has no image.
 use apertures::{Mirror, Unit};
+use std::error::Error;
+use std::fmt;
 use std::marker::Model;
 
 /// How many digits of a coordinate stand before and behind the point.
@@ -172,3 +174,29 @@ pub struct GerberError {
     /// The offset of the first byte of the refused command, from 0; of NoEnd the number of bytes.
     pub at: usize,
 }
+
+impl fmt::Display for GerberKind {
+    fn fmt<W: fmt::Write>(&self, f: &mut fmt::Formatter<W>) -> fmt::Result {
+        match self {
+            GerberKind::Syntax => write!(f, "no command, or one that may not stand here"),
+            GerberKind::NotBuiltYet => write!(f, "a command that isn't built yet"),
+            GerberKind::Unsupported => write!(f, "a command that is left out"),
+            GerberKind::NoFormat => write!(f, "a coordinate before the format"),
+            GerberKind::NoUnit => write!(f, "a length before the unit"),
+            GerberKind::NoAperture => write!(f, "no such aperture, or none selected"),
+            GerberKind::OpenRepeat => write!(f, "the end with an open repeat"),
+            GerberKind::OutOfRange => write!(f, "a point or a size past the range"),
+            GerberKind::TooManyObjects => write!(f, "more than 1048576 objects"),
+            GerberKind::NoEnd => write!(f, "the file ends too early"),
+            GerberKind::Memory => write!(f, "out of memory"),
+        }
+    }
+}
+
+impl fmt::Display for GerberError {
+    fn fmt<W: fmt::Write>(&self, f: &mut fmt::Formatter<W>) -> fmt::Result {
+        write!(f, "{} at {}", self.kind, self.at)
+    }
+}
+
+impl Error for GerberError {}

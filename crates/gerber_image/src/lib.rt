@@ -12,6 +12,8 @@ mod operate;
 mod reader;
 mod repeat;
 mod state;
+#[cfg(test)]
+mod tests;
 mod texts;
 mod words;
 
