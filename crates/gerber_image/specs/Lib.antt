@@ -1,0 +1,15 @@
+pub mod Texts
+pub mod Numerals
+pub mod Words
+pub mod Extended
+pub mod Numbers
+pub mod InForce
+pub mod Image
+pub mod Checks
+pub mod State
+pub mod Copies
+pub mod Fits
+pub mod Gerber
+pub mod Answer
+pub mod Reached
+pub mod Laws
