@@ -21,7 +21,7 @@ by_bool : {P : Type 0} (b : Bool) → (b ≡ true → P) → (b ≡ false → P)
 by_bool true t f = t refl
 by_bool false t f = f refl
 
-or_false : (a b : Bool) → (a || b) ≡ false → (a ≡ false) × (b ≡ false)
+pub or_false : (a b : Bool) → (a || b) ≡ false → (a ≡ false) × (b ≡ false)
 or_false false b e = (refl, e)
 or_false true b e = absurd (grind (arith, e))
 

@@ -4,6 +4,7 @@ pub mod FigureLaws
 pub mod FlashLaws
 pub mod Copies
 pub mod ShapeLaws
+pub mod CopyLaws
 pub mod ReadyLaws
 pub mod ReachedLaws
 pub mod OneOutcome

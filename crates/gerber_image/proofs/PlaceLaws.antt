@@ -22,7 +22,7 @@ and_true true b e = (refl, e)
 and_true false b e = absurd (grind (arith, e))
 
 -- a point whose coordinates are in the range is a place
-near_is_place : (p : Point) → (in_range p.x && in_range p.y) ≡ true → IsPlace p
+pub near_is_place : (p : Point) → (in_range p.x && in_range p.y) ≡ true → IsPlace p
 near_is_place p e = let both = and_true (in_range p.x) (in_range p.y) e in record { x = in_coordinates p.x both.0; y = in_coordinates p.y both.1 }
 
 chosen : (p : Point) (b : Bool) → (in_range p.x && in_range p.y) ≡ b → (r : Option Point) → r ≡ cond b (Some p) None

@@ -1,10 +1,14 @@
 -- Shapes, one part more at a time.
-use Rattle.std.proofs.Common.{◌≡◌, refl, ℕ, ◌<◌, ◌+◌, pos, List, [], ◌∷◌, ◌++◌, length, take, map, get_or, slice_index_or, true, false, Bool, ◌||◌, arith, ap, sym, ◌∙◌}
+use Rattle.std.proofs.Common.{◌≡◌, refl, ℕ, ℤ, ◌<◌, ◌+◌, pos, List, [], ◌∷◌, ◌++◌, length, take, map, get_or, slice_index_or, true, false, Bool, ◌||◌, arith, ap, sym, ◌∙◌}
 use Rattle.std.specs.List.{All, list_any}
 use Rattle.std.proofs.lemmas.List.{take_more, map-append}
-use Rattle.shape_parts.specs.Parts.{IsPart, IsPiece, HoldsPiece}
+use Rattle.shape_parts.specs.Parts.{IsPart, HoldsPiece}
+use Rattle.apertures.specs.Figures.{IsBounded, IsBoundedPiece}
+use Rattle.std.proofs.lemmas.Int.{ints}
+use Rattle.board_base.specs.declared.places.Point.{Point}
+use Rattle.board_base.specs.Places.{IsPlace, IsCoordinate, IsNearCoordinate, IsNearPlace}
 use Rattle.shape_parts.specs.declared.shape.Part.{Part}
-use Rattle.shape_parts.specs.declared.shape.Part.TheVariants.{Disc}
+use Rattle.shape_parts.specs.declared.shape.Part.TheVariants.{Disc, Capsule}
 use Rattle.shape_parts.specs.declared.shape.Piece.{Piece}
 use Rattle.gerber_image.specs.Image.{at, shifted_part, shifted_piece}
 use Rattle.gerber_image.specs.Checks.{part_leaves, piece_leaves}
@@ -14,9 +18,19 @@ use Rattle.gerber_image.proofs.Copies.{any_more, not_this}
 abbrev pub some_piece : Piece
 some_piece = record { part = Disc (at (pos 0) (pos 0)) (pos 0); on = true }
 
+near_coordinate : (v : ℤ) → IsCoordinate v → IsNearCoordinate v
+near_coordinate v h = record { low = grind (arith, ints, h.low); high = grind (arith, ints, h.high) }
+
+near : (p : Point) → IsPlace p → IsNearPlace p
+near p h = record { x_in = near_coordinate p.x h.x; y_in = near_coordinate p.y h.y }
+
+bounded_part : (part : Part) → IsBounded part → IsPart part
+bounded_part (Disc c d) b = (near c b.0, b.1)
+bounded_part (Capsule p q d) b = (near p b.0, near q b.1, b.2)
+
 -- a part of a shape
-pub part_fits : (shape : List Piece) (k : ℕ) (part : Part) → All IsPiece shape → k < length shape → HoldsPiece shape k (λ p. p.part ≡ part) → IsPart part
-part_fits shape k part all h e = rw (sym (e some_piece)) (all k some_piece h)
+pub part_fits : (shape : List Piece) (k : ℕ) (part : Part) → All IsBoundedPiece shape → k < length shape → HoldsPiece shape k (λ p. p.part ≡ part) → IsPart part
+part_fits shape k part all h e = rw (sym (e some_piece)) (bounded_part _ (all k some_piece h))
 
 -- one part more is tested
 pub one_more : (shape : List Piece) (k m n : ℕ) (part : Part) (found leaves next : Bool) → k < length shape → HoldsPiece shape k (λ p. p.part ≡ part)

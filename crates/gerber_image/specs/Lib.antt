@@ -6,6 +6,7 @@ pub mod Numbers
 pub mod InForce
 pub mod Image
 pub mod Checks
+pub mod Objects
 pub mod State
 pub mod Copies
 pub mod Fits

@@ -5,13 +5,13 @@ use Rattle.std.specs.Ordering.{nat_cmp}
 use Rattle.std.specs.List.{All, AllByRecursion, list_any}
 use Rattle.std.specs.BTreeMap.{get}
 use Rattle.board_base.specs.Places.{IsPlace}
-use Rattle.shape_parts.specs.Parts.{IsWidth, IsPiece}
+use Rattle.shape_parts.specs.Parts.{IsWidth}
 use Rattle.shape_parts.specs.declared.shape.Part.{Part}
 use Rattle.shape_parts.specs.declared.shape.Part.TheVariants.{Disc, Capsule}
 use Rattle.shape_parts.specs.declared.shape.Piece.{Piece}
-use Rattle.shape_parts.specs.declared.shape.Painted.{Painted}
 use Rattle.apertures.specs.Figures.{Figure}
 use Rattle.apertures.specs.declared.place.Mirror.TheVariants as mirrors
+use Rattle.gerber_image.specs.Objects.{IsObject}
 use Rattle.gerber_image.specs.InForce.{InForce, sets_format, sets_unit, sets_dark, sets_mirror, sets_angle, sets_mode, sets_selected, sets_act, sets_x, sets_y, sets_aperture, sets_repeat}
 use Rattle.gerber_image.specs.Image.{at, block_after, painted_after, copies}
 use Rattle.gerber_image.specs.Checks.{Held, fault_of, is_outside}
@@ -89,11 +89,6 @@ pub record IsRepeat (r : Repeat) : Type 0 where
   pub dx : r.dx < 2 ^ 110
   pub dy : r.dy < 2 ^ 110
 
--- few parts, which a shape may hold
-pub record IsObject (p : Painted) : Type 0 where
-  pub few : length p.shape < 2 ^ 32
-  pub parts : All IsPiece p.shape
-
 -- the width of a part
 abbrev pub part_width : Part → ℤ
 part_width (Disc c d) = d
@@ -115,7 +110,8 @@ pub record IsReady (h : Held) : Type 0 where
   pub repeat : IfSome h.now.repeat IsRepeat
   pub here : IsPlace (at h.now.x h.now.y)
   pub apertures : (number : ℕ) → IfSome (h.now.aperture number) IsBuilt
-  pub objects : All IsObject h.block
+  pub block : All IsObject h.block
+  pub painted : All IsObject h.painted
 
 -- an object, if there is one
 abbrev pub listed : {X : Type 0} → Option X → List X

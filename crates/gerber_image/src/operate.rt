@@ -8,7 +8,8 @@ ghost use Rattle.apertures.specs.Placed.{placed};
 ghost use Rattle.gerber_image.specs.declared.command.Said.TheVariants.{Operate};
 ghost use Rattle.gerber_image.specs.Image.{at, figure_of, stroked, flashed, acted, x_after, y_after, object_of};
 ghost use Rattle.gerber_image.specs.Checks.{is_long as is_long_of, has_long as has_long_of, is_draw, is_curved as is_curved_of, is_strokeless, is_move, is_far, flash_leaves, leaves_range, first_fault_of};
-ghost use Rattle.gerber_image.specs.State.{kept, listed, IsReady, IsObject, IsBuilt, Stops, Steps};
+ghost use Rattle.gerber_image.specs.Objects.{IsObject};
+ghost use Rattle.gerber_image.specs.State.{kept, listed, IsReady, IsBuilt, Stops, Steps};
 
 use crate::command::{Act, Digits, Format, GerberKind, Mode, Operation};
 use crate::numbers::{both, coordinate, point};
@@ -269,7 +270,8 @@ impl State {
         requires { IsReady (kept self.old) }
         ensures steps { Steps (kept self.old) (Operate operation) result (kept self.new) }
         ensures place { OnOk result (IsPlace self.new.here) }
-        ensures objects { OnOk result (All IsObject self.new.block.items) }
+        ensures block { OnOk result (All IsObject self.new.block.items) }
+        ensures painted { OnOk result (All IsObject self.new.painted.items) }
     {
         let effect = self.effect(alloc, operation)?;
         self.add(effect.object)?;

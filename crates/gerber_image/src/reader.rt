@@ -1,9 +1,10 @@
 // The image of a file.
 ghost use Rattle.std.specs.Prelude.{◌≡◌, ◌≤◌, IfOk, IfErr, IfSome, Ok, Err, Some, None, not};
-ghost use Rattle.std.specs.List.{filter};
+ghost use Rattle.std.specs.List.{All, filter};
 ghost use Rattle.gerber_lexer.specs.Cut.{is_break};
 ghost use Rattle.gerber_image.specs.Checks.{is_end as is_end_of};
 ghost use Rattle.gerber_image.specs.Fits.{IsSaid};
+ghost use Rattle.gerber_image.specs.Objects.{IsObject};
 ghost use Rattle.gerber_image.specs.State.{Steps, IsReady, kept};
 ghost use Rattle.gerber_image.specs.Answer.{Refuses};
 ghost use Rattle.gerber_image.specs.Gerber.{said_of, without_breaks as without_breaks_of, StandsFor};
@@ -70,6 +71,7 @@ fn said(alloc: Global, text: &[u8], is_extended: bool) -> Result<Option<Said>, A
 pub fn read_image(alloc: Global, bytes: &[u8]) -> Result<Vec<Painted>, GerberError>
     ensures image { IfOk result (λ v. StandsFor bytes.now (Ok v.items)) }
     ensures refusal { IfErr result (Refuses bytes.now) }
+    ensures objects { IfOk result (λ v. All IsObject v.items) }
 {
     let mut state = State::new(alloc);
     let mut at = 0;

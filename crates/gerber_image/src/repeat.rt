@@ -2,10 +2,12 @@
 ghost use Rattle.std.specs.Prelude.{◌≡◌, ◌++◌, ◌<◌, ◌≤◌, ◌+◌, ◌*◌, ◌^◌, ◌||◌, ◌&&◌, pos, false, true, length, map, OnOk, IfOk, MatchOption, IfSome, ◌+ℤ◌, Some, None};
 ghost use Rattle.std.specs.List.{All, list_any, flat_map, range_with_len};
 ghost use Rattle.board_base.specs.Places.{IsPlace};
-ghost use Rattle.shape_parts.specs.Parts.{IsPart, IsPiece};
+ghost use Rattle.shape_parts.specs.Parts.{IsPart};
+ghost use Rattle.apertures.specs.Figures.{IsBoundedPiece};
 ghost use Rattle.gerber_image.specs.Image.{at, shifted_part as shifted_part_of, shifted_piece, shifted, copy, copies_of};
 ghost use Rattle.gerber_image.specs.Checks.{is_far, part_leaves, piece_leaves, is_outside};
-ghost use Rattle.gerber_image.specs.State.{IsRepeat, IsObject};
+ghost use Rattle.gerber_image.specs.Objects.{IsObject};
+ghost use Rattle.gerber_image.specs.State.{IsRepeat};
 ghost use Rattle.gerber_image.specs.Copies.{AreInside};
 
 use crate::command::Repeat;
@@ -66,7 +68,7 @@ fn part_leaves(part: &Part, dx: u128, dy: u128) -> bool
 // Whether a shifted shape leaves the range.
 fn shape_leaves(shape: &Shape, dx: u128, dy: u128) -> bool
     requires few { length shape.now < 2 ^ 32 }
-    requires parts { All IsPiece shape.now }
+    requires parts { All IsBoundedPiece shape.now }
     requires dx { dx < 2 ^ 120 }
     requires dy { dy < 2 ^ 120 }
     ensures { result ≡ list_any piece_leaves (map (shifted_piece (pos dx) (pos dy)) shape.now) }
@@ -81,7 +83,7 @@ fn shape_leaves(shape: &Shape, dx: u128, dy: u128) -> bool
 // A shifted shape that stays in the range.
 fn shifted_shape(alloc: Global, shape: &Shape, dx: u128, dy: u128) -> Result<Shape, AllocError>
     requires few { length shape.now < 2 ^ 32 }
-    requires parts { All IsPiece shape.now }
+    requires parts { All IsBoundedPiece shape.now }
     requires dx { dx < 2 ^ 120 }
     requires dy { dy < 2 ^ 120 }
     requires inside { list_any piece_leaves (map (shifted_piece (pos dx) (pos dy)) shape.now) ≡ false }

@@ -35,4 +35,4 @@ pub returns-in-Close-clause-ready : goal.returns-in-Close-clause-ready
 returns-in-Close-clause-ready c = taken (kept c.args.self.now) (kept c.close.new.self) says.Close _ c.close.ensures (λ e. ready_close (kept c.args.self.now) c.requires.ready e)
 
 pub returns-in-Operate-clause-ready : goal.returns-in-Operate-clause-ready
-returns-in-Operate-clause-ready c = operated (kept c.args.self.now) (kept c.operate.new.self) c.in-Operate.operation _ c.operate.ensures.steps c.operate.ensures.place c.operate.ensures.objects c.requires.ready
+returns-in-Operate-clause-ready c = operated (kept c.args.self.now) (kept c.operate.new.self) c.in-Operate.operation _ c.operate.ensures.steps c.operate.ensures.place c.operate.ensures.block c.operate.ensures.painted c.requires.ready
