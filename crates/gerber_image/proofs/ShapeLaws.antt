@@ -1,12 +1,9 @@
 -- Shapes, one part more at a time.
-use Rattle.std.proofs.Common.{◌≡◌, refl, ℕ, ℤ, ◌<◌, ◌+◌, pos, List, [], ◌∷◌, ◌++◌, length, take, map, get_or, slice_index_or, true, false, Bool, ◌||◌, arith, ap, sym, ◌∙◌}
+use Rattle.std.proofs.Common.{◌≡◌, refl, ℕ, ◌<◌, ◌+◌, pos, List, [], ◌∷◌, ◌++◌, length, take, map, get_or, true, false, Bool, ◌||◌, ap, sym, ◌∙◌}
 use Rattle.std.specs.List.{All, list_any}
 use Rattle.std.proofs.lemmas.List.{take_more, map-append}
 use Rattle.shape_parts.specs.Parts.{IsPart, HoldsPiece}
 use Rattle.apertures.specs.Figures.{IsBounded, IsBoundedPiece}
-use Rattle.std.proofs.lemmas.Int.{ints}
-use Rattle.board_base.specs.declared.places.Point.{Point}
-use Rattle.board_base.specs.Places.{IsPlace, IsCoordinate, IsNearCoordinate, IsNearPlace}
 use Rattle.shape_parts.specs.declared.shape.Part.{Part}
 use Rattle.shape_parts.specs.declared.shape.Part.TheVariants.{Disc, Capsule}
 use Rattle.shape_parts.specs.declared.shape.Piece.{Piece}
@@ -18,15 +15,9 @@ use Rattle.gerber_image.proofs.Copies.{any_more, not_this}
 abbrev pub some_piece : Piece
 some_piece = record { part = Disc (at (pos 0) (pos 0)) (pos 0); on = true }
 
-near_coordinate : (v : ℤ) → IsCoordinate v → IsNearCoordinate v
-near_coordinate v h = record { low = grind (arith, ints, h.low); high = grind (arith, ints, h.high) }
-
-near : (p : Point) → IsPlace p → IsNearPlace p
-near p h = record { x_in = near_coordinate p.x h.x; y_in = near_coordinate p.y h.y }
-
 bounded_part : (part : Part) → IsBounded part → IsPart part
-bounded_part (Disc c d) b = (near c b.0, b.1)
-bounded_part (Capsule p q d) b = (near p b.0, near q b.1, b.2)
+bounded_part (Disc c d) b = b
+bounded_part (Capsule p q d) b = b
 
 -- a part of a shape
 pub part_fits : (shape : List Piece) (k : ℕ) (part : Part) → All IsBoundedPiece shape → k < length shape → HoldsPiece shape k (λ p. p.part ≡ part) → IsPart part

@@ -8,7 +8,7 @@ ghost use Rattle.gerber_image.specs.Objects.{IsObject};
 ghost use Rattle.gerber_image.specs.State.{Steps, IsReady, kept};
 ghost use Rattle.gerber_image.specs.Answer.{Refuses};
 ghost use Rattle.gerber_image.specs.Gerber.{said_of, without_breaks as without_breaks_of, StandsFor};
-ghost use Rattle.gerber_image.specs.Laws.{OneOutcome, EachStaysSet, KeepsPace};
+ghost use Rattle.gerber_image.specs.Laws.{OneOutcome, EachHasOutcome, OnlyOutcome, EachStaysSet, KeepsPace};
 
 use crate::command::{GerberError, GerberKind, Said};
 use crate::extended::extended;
@@ -104,6 +104,12 @@ pub fn read_image(alloc: Global, bytes: &[u8]) -> Result<Vec<Painted>, GerberErr
 /// Bytes stand for one image or one refusal at most, so a reader answers it exactly where there is one.
 pub fn one_outcome()
     ensures { OneOutcome }
+{}
+
+/// Bytes stand for the outcome that is computed command by command, and for no other.
+pub fn outcome_law()
+    ensures each { EachHasOutcome }
+    ensures only { OnlyOutcome }
 {}
 
 /// What a command has set is in force until another one sets it, for each thing that may be in force.
