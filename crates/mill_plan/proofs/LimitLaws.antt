@@ -9,7 +9,7 @@ use Rattle.separation_laws.specs.Counts.{OneCount}
 use Rattle.shape_parts.specs.declared.shape.Painted.{Painted}
 use Rattle.mill_plan.specs.declared.job.Job.{Job}
 use Rattle.mill_plan.specs.declared.limits.LimitHit.{LimitHit}
-use Rattle.mill_plan.specs.declared.limits.LimitHit.TheVariants.{Reach, Side, Cells, Islands}
+use Rattle.mill_plan.specs.declared.limits.LimitHit.TheVariants.{Reach, Side, Cells, Islands, Objects}
 use Rattle.mill_plan.specs.Job.{keeps}
 use Rattle.mill_plan.specs.Frame.{IsFrameOf, HasManyIslands, HitsLimit}
 use Rattle.mill_plan.proofs.FrameLaws.{one_frame}
@@ -32,6 +32,7 @@ no_limit job painted f number n law framed islands few (Side s) h = not_both f (
 no_limit job painted f number n law framed islands few (Cells c) h = not_both f (TooManyCells c) (one_frame job painted (Ok f) (Err (TooManyCells c)) framed h)
 no_limit job painted f number n law framed islands few Islands h =
     too_many (keeps job painted) number (h.many).number n (h.many).count law islands few (h.many).islands (h.many).more
+no_limit job painted f number n law framed islands few Objects h = h
 
 reach_same : (v w : ℤ) → PastReach v ≡ PastReach w → Reach w ≡ Reach v
 reach_same v w e = cc
@@ -84,3 +85,8 @@ one_limit job painted Islands (Reach w) h k = absurd (framed_apart job painted (
 one_limit job painted Islands (Side w) h k = absurd (framed_apart job painted (TooWide w) h.frame k h.framed)
 one_limit job painted Islands (Cells w) h k = absurd (framed_apart job painted (TooManyCells w) h.frame k h.framed)
 one_limit job painted Islands Islands h k = refl
+one_limit job painted Objects other h k = absurd h
+one_limit job painted (Reach v) Objects h k = absurd k
+one_limit job painted (Side v) Objects h k = absurd k
+one_limit job painted (Cells v) Objects h k = absurd k
+one_limit job painted Islands Objects h k = absurd k

@@ -11,7 +11,7 @@ use Rattle.shape_parts.specs.declared.shape.Painted.{Painted}
 use Rattle.copper_cover.specs.Kept.{dark_rectangle}
 use Rattle.mill_plan.specs.declared.job.Job.{Job}
 use Rattle.mill_plan.specs.declared.limits.LimitHit.{LimitHit}
-use Rattle.mill_plan.specs.declared.limits.LimitHit.TheVariants.{Reach, Side, Cells, Islands}
+use Rattle.mill_plan.specs.declared.limits.LimitHit.TheVariants.{Reach, Side, Cells, Islands, Objects}
 use Rattle.mill_plan.specs.declared.limits.PlanError.{PlanError}
 use Rattle.mill_plan.specs.declared.limits.PlanError.TheVariants.{Limit, Memory}
 use Rattle.mill_plan.specs.Job.{radius_of, guard, keeps}
@@ -45,12 +45,14 @@ pub record HasManyIslands (job : Job) (painted : List Painted) : Type 0 where
   pub framed : IsFrameOf job painted (Ok frame)
   pub many : AreMoreIslands 65535 (keeps job painted)
 
--- the image passes this limit: of its frame, where the frame is refused so, and else of its islands
+-- The image passes this limit: of its frame, where the frame is refused so, and else of its islands. No plan has too
+-- many objects: who reads the image refuses it.
 abbrev pub HitsLimit : Job → List Painted → LimitHit → Type 0
 HitsLimit job painted (Reach value) = IsFrameOf job painted (Err (PastReach value))
 HitsLimit job painted (Side side) = IsFrameOf job painted (Err (TooWide side))
 HitsLimit job painted (Cells cells) = IsFrameOf job painted (Err (TooManyCells cells))
 HitsLimit job painted Islands = HasManyIslands job painted
+HitsLimit job painted Objects = ⊥
 
 -- what a refusal of a frame is to a side
 abbrev pub error_of : GridError → PlanError

@@ -15,6 +15,8 @@ pub enum LimitHit {
     Reach(i64),
     /// There are more than 65,535 islands.
     Islands,
+    /// The image has more than 2^20 objects.
+    Objects,
 }
 
 /// Why there is no plan.

@@ -1,0 +1,11 @@
+pub mod NumeralLaws
+pub mod PlaceLaws
+pub mod FigureLaws
+pub mod FlashLaws
+pub mod Copies
+pub mod ShapeLaws
+pub mod CopyLaws
+pub mod ReadyLaws
+pub mod ReachedLaws
+pub mod OneOutcome
+pub mod OutcomeLaws

@@ -1,0 +1,14 @@
+use Rattle.std.proofs.Common.{◌-◌, ◌+◌, length, ◌≤◌}
+use Rattle.gerber_image.specs.State.{kept, IsReady}
+use Rattle.gerber_image.specs.Reached.{IsReached}
+use Rattle.gerber_image.proofs.reader.read_image.Given as goal
+
+abbrev pub invariant-commands : goal.invariant-commands
+invariant-commands l = record {
+  reached : IsReached l.bytes l.at l.inside (kept l.state);
+  within : l.at ≤ length l.bytes;
+  ready : IsReady (kept l.state);
+}
+
+abbrev pub decreases-commands : goal.decreases-commands
+decreases-commands l = length l.bytes + 1 - l.at

@@ -1,0 +1,215 @@
+-- The checks of a command, in their order.
+use Rattle.std.specs.Prelude.{◌+◌, ◌^◌, ◌||◌, ℤ, pos, Bool, true, false, List, [], ◌∷◌, length, Option, Some, None, is_some, is_none, unwrap_or, Result, Err, ◌==◌, if◌then◌else◌, ◌&&◌, not, nat_lt}
+use Rattle.std.specs.Option.{option_or}
+use Rattle.std.specs.List.{list_any}
+use Rattle.board_base.specs.declared.places.Point.{Point}
+use Rattle.fixed_num.specs.Angles.{in_range}
+use Rattle.shape_parts.specs.declared.shape.Part.{Part}
+use Rattle.shape_parts.specs.declared.shape.Part.TheVariants.{Disc, Capsule}
+use Rattle.shape_parts.specs.declared.shape.Piece.{Piece}
+use Rattle.shape_parts.specs.declared.shape.Painted.{Painted}
+use Rattle.apertures.specs.declared.aperture.ApertureError.{ApertureError}
+use Rattle.apertures.specs.declared.aperture.ApertureError.TheVariants as errors
+use Rattle.apertures.specs.declared.aperture.Unit.{Unit}
+use Rattle.apertures.specs.declared.aperture.Unit.TheVariants as units
+use Rattle.apertures.specs.Figures.{Figure}
+use Rattle.apertures.specs.Placed.{placed}
+use Rattle.gerber_image.specs.InForce.{InForce, in_force, defined_under}
+use Rattle.gerber_image.specs.Image.{at, x_after, y_after, figure_of, copies, block_at, painted_by, painted_after}
+use Rattle.gerber_image.specs.declared.command.Format.{Format}
+use Rattle.gerber_image.specs.declared.command.Digits.{Digits}
+use Rattle.gerber_image.specs.declared.command.Act.{Act}
+use Rattle.gerber_image.specs.declared.command.Act.TheVariants as acts
+use Rattle.gerber_image.specs.declared.command.Mode.{Mode}
+use Rattle.gerber_image.specs.declared.command.Mode.TheVariants as modes
+use Rattle.gerber_image.specs.declared.command.Operation.{Operation}
+use Rattle.gerber_image.specs.declared.command.Said.{Said}
+use Rattle.gerber_image.specs.declared.command.Said.TheVariants as says
+use Rattle.gerber_image.specs.declared.command.GerberKind.{GerberKind}
+use Rattle.gerber_image.specs.declared.command.GerberKind.TheVariants as kinds
+
+-- of a list of tests and kinds the kind of the first test that holds
+abbrev pub first_fault : List (Bool × GerberKind) → Option GerberKind
+first_fault [] = None
+first_fault (f ∷ fs) = if f.0 then Some f.1 else first_fault fs
+
+-- Syntax.
+
+-- no format was set, or this one
+abbrev pub same_format : Format → Option Format → Bool
+same_format f None = true
+same_format f (Some g) = (f.whole == g.whole) && (f.decimals == g.decimals)
+
+-- no unit was set, or this one
+abbrev pub same_unit : Unit → Option Unit → Bool
+same_unit units.Mm (Some units.Inch) = false
+same_unit units.Inch (Some units.Mm) = false
+same_unit _ _ = true
+
+-- more digits than the format has
+abbrev pub is_long : Option Format → Option Digits → Bool
+is_long (Some format) (Some digits) = nat_lt (format.whole + format.decimals) digits.count
+is_long _ _ = false
+
+-- one of the coordinates has
+abbrev pub has_long : Option Format → Operation → Bool
+has_long format o = is_long format o.x || is_long format o.y || is_long format o.i || is_long format o.j
+
+-- the text of an aperture is outside its grammar
+abbrev pub is_no_aperture : Result Figure ApertureError → Bool
+is_no_aperture (Err errors.Syntax) = true
+is_no_aperture _ = false
+
+-- the commands that may not stand here
+abbrev pub is_misplaced : InForce → Said → Bool
+is_misplaced now (says.Format format) = not (same_format format now.format)
+is_misplaced now (says.Unit unit) = not (same_unit unit now.unit)
+is_misplaced now (says.Define number template) = is_no_aperture (defined_under now.unit template)
+is_misplaced now says.Close = is_none now.repeat
+is_misplaced now (says.Operate o) = is_none (option_or o.act now.act) || has_long now.format o
+is_misplaced now _ = false
+
+-- NotBuiltYet.
+
+-- the template of an aperture isn't built yet
+abbrev pub is_unbuilt_aperture : Result Figure ApertureError → Bool
+is_unbuilt_aperture (Err errors.NotBuiltYet) = true
+is_unbuilt_aperture _ = false
+
+-- a stroke
+abbrev pub is_draw : Option Act → Bool
+is_draw (Some acts.Draw) = true
+is_draw _ = false
+
+-- along an arc
+abbrev pub is_curved : Mode → Bool
+is_curved modes.Linear = false
+is_curved _ = true
+
+-- what isn't built yet
+abbrev pub is_unbuilt : InForce → Said → Bool
+is_unbuilt now says.NotBuiltYet = true
+is_unbuilt now (says.Define number template) = is_unbuilt_aperture (defined_under now.unit template)
+is_unbuilt now (says.Operate o) = is_draw (option_or o.act now.act) && is_curved (unwrap_or o.mode now.mode)
+is_unbuilt now _ = false
+
+-- Unsupported.
+
+-- the aperture has a rectangular hole
+abbrev pub is_unsupported_aperture : Result Figure ApertureError → Bool
+is_unsupported_aperture (Err errors.Unsupported) = true
+is_unsupported_aperture _ = false
+
+-- an aperture that makes no strokes
+abbrev pub is_strokeless : Option Figure → Bool
+is_strokeless (Some figure) = is_none figure.stroke
+is_strokeless None = false
+
+-- what is left out
+abbrev pub is_left_out : InForce → Said → Bool
+is_left_out now says.Unsupported = true
+is_left_out now (says.Define number template) = is_unsupported_aperture (defined_under now.unit template)
+is_left_out now (says.Operate o) = is_draw (option_or o.act now.act) && is_strokeless (figure_of now.selected now.aperture)
+is_left_out now _ = false
+
+-- NoFormat, NoUnit and NoAperture.
+
+-- an operation with a coordinate
+abbrev pub has_coordinate : Said → Bool
+has_coordinate (says.Operate o) = is_some o.x || is_some o.y || is_some o.i || is_some o.j
+has_coordinate _ = false
+
+-- a command with a length
+abbrev pub needs_unit : Said → Bool
+needs_unit (says.Define number template) = true
+needs_unit (says.Open columns rows dx dy) = true
+needs_unit said = has_coordinate said
+
+-- a move
+abbrev pub is_move : Option Act → Bool
+is_move (Some acts.Move) = true
+is_move _ = false
+
+-- an undefined aperture is selected, or none is where one is wanted
+abbrev pub lacks_aperture : InForce → Said → Bool
+lacks_aperture now (says.Select number) = is_none (figure_of number now.aperture)
+lacks_aperture now (says.Operate o) = not (is_move (option_or o.act now.act)) && is_none now.selected
+lacks_aperture now _ = false
+
+-- OpenRepeat.
+
+-- the end of the file's commands
+abbrev pub is_end : Said → Bool
+is_end says.End = true
+is_end _ = false
+
+-- OutOfRange.
+
+-- a size of the aperture is past the range
+abbrev pub is_great : Result Figure ApertureError → Bool
+is_great (Err errors.OutOfRange) = true
+is_great _ = false
+
+-- the point is past the range
+abbrev pub is_far : Point → Bool
+is_far p = not (in_range p.x && in_range p.y)
+
+-- a point of the part is
+abbrev pub part_leaves : Part → Bool
+part_leaves (Disc c d) = is_far c
+part_leaves (Capsule a b d) = is_far a || is_far b
+
+-- the same of a piece
+abbrev pub piece_leaves : Piece → Bool
+piece_leaves p = part_leaves p.part
+
+-- the same of an object
+abbrev pub is_outside : Painted → Bool
+is_outside p = list_any piece_leaves p.shape
+
+-- a flash with a point past the range
+abbrev pub flash_leaves : Option Act → InForce → ℤ → ℤ → Option Figure → Bool
+flash_leaves (Some acts.Flash) now x y (Some figure) = is_none (placed (at x y) now.mirror (pos now.angle) figure.pieces)
+flash_leaves _ now x y _ = false
+
+-- what a command brings past the range
+abbrev pub leaves_range : InForce → List Painted → Said → Bool
+leaves_range now block (says.Operate o) =
+    is_far (at (x_after now o) (y_after now o)) || flash_leaves (option_or o.act now.act) now (x_after now o) (y_after now o) (figure_of now.selected now.aperture)
+leaves_range now block (says.Define number template) = is_great (defined_under now.unit template)
+leaves_range now block says.Close = list_any is_outside (copies now.repeat block)
+leaves_range now block (says.Open columns rows dx dy) = list_any is_outside (copies now.repeat block)
+leaves_range now block _ = false
+
+-- All of them.
+
+-- all that a command's checks look at
+pub record Held : Type 0 where
+  pub now : InForce
+  pub block : List Painted
+  pub painted : List Painted
+
+-- the same behind these commands
+abbrev pub held : List Said → Held
+held past = record { now = in_force past; block = block_at past; painted = painted_by past }
+
+-- the first check of a command that fails, the count of objects aside
+abbrev pub first_fault_of : InForce → List Painted → Said → Option GerberKind
+first_fault_of now block said =
+    first_fault ((is_misplaced now said, kinds.Syntax)
+    ∷ (is_unbuilt now said, kinds.NotBuiltYet)
+    ∷ (is_left_out now said, kinds.Unsupported)
+    ∷ (has_coordinate said && is_none now.format, kinds.NoFormat)
+    ∷ (needs_unit said && is_none now.unit, kinds.NoUnit)
+    ∷ (lacks_aperture now said, kinds.NoAperture)
+    ∷ (is_end said && is_some now.repeat, kinds.OpenRepeat)
+    ∷ (leaves_range now block said, kinds.OutOfRange)
+    ∷ [])
+
+-- more than 2^20 objects
+abbrev pub count_fault : Held → Said → Option GerberKind
+count_fault h said = if nat_lt (2 ^ 20) (length (painted_after h.now h.block h.painted said)) then Some kinds.TooManyObjects else None
+
+-- the first check of a command that fails
+abbrev pub fault_of : Held → Said → Option GerberKind
+fault_of h said = option_or (first_fault_of h.now h.block said) (count_fault h said)

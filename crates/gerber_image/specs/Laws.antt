@@ -1,0 +1,48 @@
+-- Laws of what is in force and of what bytes stand for.
+use Rattle.std.specs.Prelude.{◌≡◌, ℕ, List, [], ◌∷◌, ◌++◌, Option, Some, None, ⊤}
+use Rattle.gerber_image.specs.InForce.{last_set, sets_format, sets_unit, sets_dark, sets_mirror, sets_angle, sets_mode, sets_selected, sets_act, sets_aperture, sets_x, sets_y, sets_repeat, format_at, unit_at}
+use Rattle.gerber_image.specs.Checks.{held}
+use Rattle.gerber_image.specs.State.{after}
+use Rattle.gerber_image.specs.Gerber.{Outcome, StandsFor}
+use Rattle.gerber_image.specs.Computed.{outcome_of}
+use Rattle.gerber_image.specs.declared.command.Said.{Said}
+
+-- none of these commands, the nearest first, sets the thing; behind them stand those of `past`
+abbrev pub NoneSets : {A : Type 0} → (List Said → Said → Option A) → List Said → List Said → Type 0
+NoneSets sets past [] = ⊤
+NoneSets sets past (said ∷ nearer) = (sets (nearer ++ past) said ≡ None) × NoneSets sets past nearer
+
+-- what a command has set is what the last one has set, until another one sets the thing
+abbrev pub StaysSet : {A : Type 0} → (List Said → Said → Option A) → Type 0
+StaysSet {A} sets = (nearer past : List Said) (said : Said) (value : A) → sets past said ≡ Some value → NoneSets sets (said ∷ past) nearer → last_set sets (nearer ++ said ∷ past) ≡ Some value
+
+-- the same of each thing that may be in force
+pub record EachStaysSet : Type 0 where
+  pub format : StaysSet (λ _. sets_format)
+  pub unit : StaysSet (λ _. sets_unit)
+  pub dark : StaysSet (λ _. sets_dark)
+  pub mirror : StaysSet (λ _. sets_mirror)
+  pub angle : StaysSet (λ _. sets_angle)
+  pub mode : StaysSet (λ _. sets_mode)
+  pub selected : StaysSet (λ _. sets_selected)
+  pub aperture : (number : ℕ) → StaysSet (λ past. sets_aperture number (unit_at past))
+  pub x : StaysSet (λ past. sets_x (format_at past) (unit_at past))
+  pub y : StaysSet (λ past. sets_y (format_at past) (unit_at past))
+  pub act : StaysSet (λ _. sets_act)
+  pub repeat : StaysSet (λ past. sets_repeat (unit_at past))
+
+-- what is kept behind a command is what is in force there, with the block and the image
+abbrev pub KeepsPace : Type 0
+KeepsPace = (past : List Said) (said : Said) → after (held past) said ≡ held (said ∷ past)
+
+-- bytes stand for one thing at most
+abbrev pub OneOutcome : Type 0
+OneOutcome = (bytes : List ℕ) (a b : Outcome) → StandsFor bytes a → StandsFor bytes b → a ≡ b
+
+-- bytes stand for the outcome that is computed command by command
+abbrev pub EachHasOutcome : Type 0
+EachHasOutcome = (bytes : List ℕ) → StandsFor bytes (outcome_of bytes)
+
+-- and for no other
+abbrev pub OnlyOutcome : Type 0
+OnlyOutcome = (bytes : List ℕ) (outcome : Outcome) → StandsFor bytes outcome → outcome ≡ outcome_of bytes

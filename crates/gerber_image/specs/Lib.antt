@@ -1,0 +1,17 @@
+pub mod Texts
+pub mod Numerals
+pub mod Words
+pub mod Extended
+pub mod Numbers
+pub mod InForce
+pub mod Image
+pub mod Checks
+pub mod Objects
+pub mod State
+pub mod Copies
+pub mod Fits
+pub mod Gerber
+pub mod Computed
+pub mod Answer
+pub mod Reached
+pub mod Laws

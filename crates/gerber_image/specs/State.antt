@@ -1,0 +1,146 @@
+-- What the reader keeps, and how a command changes it.
+use Rattle.std.specs.Prelude.{◌≡◌, ℕ, ◌^◌, ◌≤◌, ◌<◌, nat_lt, ℤ, pos, true, List, [], ◌∷◌, length, Option, Some, None, unwrap_or, Result, if◌then◌else◌, MatchResult, MatchOption, IfSome, ⊤, ◌++◌}
+use Rattle.std.specs.Option.{option_or}
+use Rattle.std.specs.Ordering.{nat_cmp}
+use Rattle.std.specs.List.{All, AllByRecursion, list_any}
+use Rattle.std.specs.BTreeMap.{get}
+use Rattle.board_base.specs.Places.{IsPlace}
+use Rattle.shape_parts.specs.Parts.{IsWidth}
+use Rattle.shape_parts.specs.declared.shape.Part.{Part}
+use Rattle.shape_parts.specs.declared.shape.Part.TheVariants.{Disc, Capsule}
+use Rattle.shape_parts.specs.declared.shape.Piece.{Piece}
+use Rattle.apertures.specs.Figures.{Figure}
+use Rattle.apertures.specs.declared.place.Mirror.TheVariants as mirrors
+use Rattle.gerber_image.specs.Objects.{IsObject}
+use Rattle.gerber_image.specs.InForce.{InForce, sets_format, sets_unit, sets_dark, sets_mirror, sets_angle, sets_mode, sets_selected, sets_act, sets_x, sets_y, sets_aperture, sets_repeat}
+use Rattle.gerber_image.specs.Image.{at, block_after, painted_after, copies}
+use Rattle.gerber_image.specs.Checks.{Held, fault_of, is_outside}
+use Rattle.gerber_image.specs.declared.command.Mode.TheVariants as modes
+use Rattle.gerber_image.specs.declared.command.Repeat.{Repeat}
+use Rattle.gerber_image.specs.declared.command.Said.{Said}
+use Rattle.gerber_image.specs.declared.command.GerberKind.{GerberKind}
+use Rattle.gerber_image.specs.declared.command.GerberKind.TheVariants as kinds
+use Rattle.gerber_image.specs.declared.state.State.{State}
+use Rattle.gerber_image.specs.declared.state.Stop.{Stop}
+use Rattle.gerber_image.specs.declared.state.Stop.TheVariants as stops
+
+-- what a state keeps
+abbrev pub kept : State → Held
+kept s = record {
+  now = record {
+    format = s.format;
+    unit = s.unit;
+    dark = s.dark;
+    mirror = s.mirror;
+    angle = s.angle;
+    mode = s.mode;
+    selected = s.selected;
+    aperture = λ number. get nat_cmp s.apertures number;
+    x = s.here.x;
+    y = s.here.y;
+    act = s.act;
+    repeat = s.repeat;
+  };
+  block = s.block.items;
+  painted = s.painted.items;
+}
+
+-- what is in force behind a command
+abbrev pub now_after : InForce → Said → InForce
+now_after now said = record {
+  format = option_or (sets_format said) now.format;
+  unit = option_or (sets_unit said) now.unit;
+  dark = unwrap_or (sets_dark said) now.dark;
+  mirror = unwrap_or (sets_mirror said) now.mirror;
+  angle = unwrap_or (sets_angle said) now.angle;
+  mode = unwrap_or (sets_mode said) now.mode;
+  selected = option_or (sets_selected said) now.selected;
+  aperture = λ number. option_or (sets_aperture number now.unit said) (now.aperture number);
+  x = unwrap_or (sets_x now.format now.unit said) now.x;
+  y = unwrap_or (sets_y now.format now.unit said) now.y;
+  act = option_or (sets_act said) now.act;
+  repeat = unwrap_or (sets_repeat now.unit said) now.repeat;
+}
+
+-- what is kept behind a command
+abbrev pub after : Held → Said → Held
+after h said = record {
+  now = now_after h.now said;
+  block = block_after h.now h.block said;
+  painted = painted_after h.now h.block h.painted said;
+}
+
+-- what stops a reader: want of memory, or this fault
+abbrev pub Stops : Option GerberKind → Stop → Type 0
+Stops fault stops.Memory = ⊤
+Stops fault (stops.Fault kind) = fault ≡ Some kind
+
+-- a step takes the command, or answers its fault
+abbrev pub Steps : {X : Type 0} → Held → Said → Result X Stop → Held → Type 0
+Steps h said result new = MatchResult result (λ _. (fault_of h said ≡ None) × (new ≡ after h said)) (Stops (fault_of h said))
+
+-- counts of at most 1,000, and steps that fit
+pub record IsRepeat (r : Repeat) : Type 0 where
+  pub some_columns : 0 < r.columns
+  pub columns : r.columns ≤ 1000
+  pub some_rows : 0 < r.rows
+  pub rows : r.rows ≤ 1000
+  pub dx : r.dx < 2 ^ 110
+  pub dy : r.dy < 2 ^ 110
+
+-- the width of a part
+abbrev pub part_width : Part → ℤ
+part_width (Disc c d) = d
+part_width (Capsule a b d) = d
+
+-- a width that a shape may hold
+abbrev pub HasWidth : Piece → Type 0
+HasWidth p = IsWidth (part_width p.part)
+
+-- one part or two, with such widths
+pub record IsBuilt (f : Figure) : Type 0 where
+  pub few : length f.pieces ≤ 2
+  pub widths : AllByRecursion HasWidth f.pieces
+
+-- what holds before each command
+pub record IsReady (h : Held) : Type 0 where
+  pub few : length h.painted ≤ 2 ^ 20
+  pub format : MatchOption h.now.format ⊤ (λ f. (f.whole ≤ 6) × (f.decimals ≤ 6))
+  pub repeat : IfSome h.now.repeat IsRepeat
+  pub here : IsPlace (at h.now.x h.now.y)
+  pub apertures : (number : ℕ) → IfSome (h.now.aperture number) IsBuilt
+  pub block : All IsObject h.block
+  pub painted : All IsObject h.painted
+
+-- an object, if there is one
+abbrev pub listed : {X : Type 0} → Option X → List X
+listed None = []
+listed (Some x) = x ∷ []
+
+-- what is kept at first
+abbrev pub nothing : Held
+nothing = record {
+  now = record {
+    format = None;
+    unit = None;
+    dark = true;
+    mirror = mirrors.Keep;
+    angle = 0;
+    mode = modes.Linear;
+    selected = None;
+    aperture = λ number. None;
+    x = pos 0;
+    y = pos 0;
+    act = None;
+    repeat = None;
+  };
+  block = [];
+  painted = [];
+}
+
+-- the fault of the copies that a command paints
+abbrev pub block_fault : Held → Option GerberKind
+block_fault h =
+    if list_any is_outside (copies h.now.repeat h.block) then Some kinds.OutOfRange
+    else if nat_lt (2 ^ 20) (length (h.painted ++ copies h.now.repeat h.block)) then Some kinds.TooManyObjects
+    else None

@@ -1,0 +1,17 @@
+-- Parts of a command's text.
+use Rattle.std.specs.Prelude.{ℕ, ◌+◌, List, Option, Some, None, length, take, drop, if◌then◌else◌, ◌==◌}
+use Rattle.std.specs.List.{position}
+use Rattle.std.specs.Str.{bytes_eq}
+
+-- what stands behind these bytes, where the text begins with them
+abbrev pub after : List ℕ → List ℕ → Option (List ℕ)
+after start text = if bytes_eq (take (length start) text) start then Some (drop (length start) text) else None
+
+-- what stands before a place, and behind it
+abbrev pub round_place : List ℕ → Option ℕ → Option (List ℕ × List ℕ)
+round_place text None = None
+round_place text (Some i) = Some (take i text, drop (i + 1) text)
+
+-- what stands before the first such byte, and behind it
+unfoldable pub cut : ℕ → List ℕ → Option (List ℕ × List ℕ)
+cut byte text = round_place text (position (λ b. b == byte) text)

@@ -1,0 +1,143 @@
+-- What word commands say. The text is without its star.
+use Rattle.std.specs.Prelude.{ℕ, ◌+◌, ◌-◌, ◌*◌, List, [], ◌∷◌, take, drop, codes, Option, Some, None, is_some, if◌then◌else◌, ◌||◌, ◌==◌, nat_lt, nat_le}
+use Rattle.std.specs.Char.{is_ascii_digit}
+use Rattle.std.specs.Option.{option_or}
+use Rattle.std.specs.Str.{bytes_eq}
+use Rattle.board_base.specs.Parts.{◌>>=◌}
+use Rattle.apertures.specs.declared.aperture.Unit.TheVariants as units
+use Rattle.gerber_image.specs.Texts.{after}
+use Rattle.gerber_image.specs.Numerals.{is_numeral, number_of, digits_of, signed_before}
+use Rattle.gerber_image.specs.declared.command.Act.{Act}
+use Rattle.gerber_image.specs.declared.command.Act.TheVariants as acts
+use Rattle.gerber_image.specs.declared.command.Mode.{Mode}
+use Rattle.gerber_image.specs.declared.command.Mode.TheVariants as modes
+use Rattle.gerber_image.specs.declared.command.Digits.{Digits}
+use Rattle.gerber_image.specs.declared.command.Operation.{Operation}
+use Rattle.gerber_image.specs.declared.command.Said.{Said}
+use Rattle.gerber_image.specs.declared.command.Said.TheVariants as says
+
+-- a code whose first digit is read, and what stands behind it: a second digit belongs to it
+abbrev pub code_from : ℕ → List ℕ → ℕ × List ℕ
+code_from n [] = (n, [])
+code_from n (b ∷ rest) = if is_ascii_digit b then (n * 10 + (b - 48), rest) else (n, b ∷ rest)
+
+-- a code of one or two digits, and what stands behind it
+abbrev pub code_of : List ℕ → Option (ℕ × List ℕ)
+code_of [] = None
+code_of (b ∷ rest) = if is_ascii_digit b then Some (code_from (b - 48) rest) else None
+
+-- the greatest number of an aperture, 2^31 - 1
+abbrev pub greatest : ℕ
+greatest = 2147483647
+
+-- an aperture's number, from 10 on: none where it is past all that can be defined
+abbrev pub in_reach : ℕ → Option Said
+in_reach n = if nat_lt n 10 then None else if nat_le n greatest then Some (says.Select (Some n)) else Some (says.Select None)
+
+-- a number of more than 18 digits is past them all
+abbrev pub selected : Option ℕ → Option Said
+selected None = Some (says.Select None)
+selected (Some n) = in_reach n
+
+-- the aperture that digits select
+unfoldable pub selection_of : List ℕ → Option Said
+selection_of text = if is_numeral text then selected (number_of text) else None
+
+-- D01, D02 or D03, with one digit or two
+abbrev pub act_word : List ℕ → Option (Option Act)
+act_word text =
+    if bytes_eq text (codes "D01") || bytes_eq text (codes "D1") then Some (Some acts.Draw)
+    else if bytes_eq text (codes "D02") || bytes_eq text (codes "D2") then Some (Some acts.Move)
+    else if bytes_eq text (codes "D03") || bytes_eq text (codes "D3") then Some (Some acts.Flash)
+    else None
+
+-- the last word of an operation, if there is one
+abbrev pub act_of : List ℕ → Option (Option Act)
+act_of [] = Some None
+act_of (b ∷ rest) = act_word (b ∷ rest)
+
+-- the digits behind a letter, where it stands in front, and what stands behind them
+abbrev pub field_in : List ℕ → Option (List ℕ) → Option (Option Digits × List ℕ)
+field_in text None = Some (None, text)
+field_in text (Some rest) = do
+  digits ← digits_of (take (signed_before rest) rest)
+  Some (Some digits, drop (signed_before rest) rest)
+
+-- the field with this letter, if there is one, and what stands behind it
+abbrev pub field : List ℕ → List ℕ → Option (Option Digits × List ℕ)
+field letter text = field_in text (after letter text)
+
+-- at least one word
+abbrev pub with_word : Operation → Option Said
+with_word o = if is_some o.x || is_some o.y || is_some o.i || is_some o.j || is_some o.act then Some (says.Operate o) else None
+
+-- an operation: X, Y, I, J and a D word in this order, each at most once
+unfoldable pub operation_of : Option Mode → List ℕ → Option Said
+operation_of mode text = do
+  x ← field (codes "X") text
+  y ← field (codes "Y") x.1
+  i ← field (codes "I") y.1
+  j ← field (codes "J") i.1
+  act ← act_of j.1
+  with_word (record { mode = mode; x = x.0; y = y.0; i = i.0; j = j.0; act = act })
+
+-- a mode alone, or before an operation
+abbrev pub with_mode : Mode → List ℕ → Option Said
+with_mode mode [] = Some (says.Mode mode)
+with_mode mode (b ∷ rest) = operation_of (Some mode) (b ∷ rest)
+
+-- the mode of a G code
+abbrev pub mode_of : ℕ → Option Mode
+mode_of code =
+    if code == 1 then Some modes.Linear
+    else if code == 2 then Some modes.Clockwise
+    else if code == 3 then Some modes.Counterclockwise
+    else None
+
+-- a G code that stands alone
+abbrev pub lone_code : ℕ → Option Said
+lone_code code =
+    if (code == 36) || (code == 37) then Some says.NotBuiltYet
+    else if code == 70 then Some (says.Unit units.Inch)
+    else if code == 71 then Some (says.Unit units.Mm)
+    else if (code == 74) || (code == 75) || (code == 90) then Some says.Ignored
+    else None
+
+-- with nothing behind it
+abbrev pub alone : ℕ → List ℕ → Option Said
+alone code [] = lone_code code
+alone code (b ∷ rest) = None
+
+-- a selection with its D
+abbrev pub behind_d : List ℕ → Option Said
+behind_d text = do
+  digits ← after (codes "D") text
+  selection_of digits
+
+-- a comment, a selection behind G54, what is left out, or a code that stands alone
+abbrev pub other_code : ℕ → List ℕ → Option Said
+other_code code rest =
+    if code == 4 then Some says.Ignored
+    else if code == 54 then behind_d rest
+    else if (code == 55) || (code == 91) then Some says.Unsupported
+    else alone code rest
+
+-- a G code and what stands behind it
+abbrev pub by_mode : Option Mode → ℕ → List ℕ → Option Said
+by_mode (Some mode) code rest = with_mode mode rest
+by_mode None code rest = other_code code rest
+
+-- what stands behind a G
+unfoldable pub general_of : List ℕ → Option Said
+general_of text = do
+  code ← code_of text
+  by_mode (mode_of code.0) code.0 code.1
+
+-- a word command
+abbrev pub word_of : List ℕ → Option Said
+word_of [] = None
+word_of (b ∷ rest) =
+    if b == 71 then general_of rest
+    else if b == 68 then option_or (operation_of None (b ∷ rest)) (selection_of rest)
+    else if bytes_eq (b ∷ rest) (codes "M02") then Some says.End
+    else operation_of None (b ∷ rest)

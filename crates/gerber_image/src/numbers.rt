@@ -1,0 +1,100 @@
+// Coordinates in nanometres, and tests of two facts.
+ghost use Rattle.std.specs.Prelude.{◌≡◌, ◌<◌, ◌≤◌, ◌^◌, ◌*◌, pos, MatchOption, Some, None, ◌&&◌, ◌||◌, unwrap_or, ⊤, true, false};
+ghost use Rattle.apertures.specs.Texts.{IsSize};
+ghost use Rattle.board_base.specs.Places.{IsPlace};
+ghost use Rattle.gerber_image.specs.Image.{at};
+ghost use Rattle.gerber_image.specs.Checks.{is_far};
+ghost use Rattle.gerber_image.specs.Numbers.{unit_size as unit_size_of, nanometres as nanometres_of};
+ghost use Rattle.gerber_image.specs.InForce.{said_place, step_length as step_length_of};
+
+use crate::command::{Digits, Format};
+use apertures::{Unit, length_of};
+use board_base::Point;
+use fixed_num::{point_at, round_div};
+
+// The nanometres of a unit.
+fn unit_size(unit: Unit) -> i128
+    ensures value { result ≡ pos (unit_size_of unit) }
+    ensures bound { unit_size_of unit ≤ 25400000 }
+{
+    match unit {
+        Unit::Mm => 1_000_000,
+        Unit::Inch => 25_400_000,
+    }
+}
+
+// A power of ten.
+fn power(decimals: u32) -> i128
+    requires { decimals ≤ 6 }
+    ensures value { result ≡ pos (10 ^ decimals) }
+    ensures positive { 0 < 10 ^ decimals }
+{
+    match decimals {
+        0 => 1,
+        1 => 10,
+        2 => 100,
+        3 => 1_000,
+        4 => 10_000,
+        5 => 100_000,
+        _ => 1_000_000,
+    }
+}
+
+// A number with this many decimals of the unit, in nanometres.
+#[tactic(auto, unfolding(crate::specs::Numbers::nanometres))]
+fn nanometres(decimals: u32, unit: Unit, value: i64) -> i128
+    requires { decimals ≤ 6 }
+    ensures { result ≡ nanometres_of decimals unit value }
+{
+    round_div(value as i128 * unit_size(unit), power(decimals))
+}
+
+/// Where digits lead by the format and the unit, in nanometres; without one of them it is `last`.
+pub fn coordinate(
+    format: Option<Format>,
+    unit: Option<Unit>,
+    digits: Option<Digits>,
+    last: i64,
+) -> i128
+    requires { MatchOption format ⊤ (λ f. (f.whole ≤ 6) × (f.decimals ≤ 6)) }
+    ensures { result ≡ unwrap_or (said_place format unit digits) last }
+{
+    match (format, unit, digits) {
+        (Some(format), Some(unit), Some(digits)) => {
+            nanometres(format.decimals, unit, digits.value)
+        }
+        _ => last as i128,
+    }
+}
+
+/// A step in 10^-9 of the unit, in whole nanometres.
+#[tactic(auto, using(crate::proofs::PlaceLaws::step_bound))]
+pub fn step_length(unit: Unit, step: u128) -> u128
+    requires { IsSize step }
+    ensures value { result ≡ step_length_of unit step }
+    ensures bound { result < 2 ^ 110 }
+{
+    length_of(step, unit) as u128
+}
+
+/// The point with these coordinates, where they are in the range.
+#[tactic(auto, using(crate::proofs::PlaceLaws::point_law))]
+pub fn point(x: i128, y: i128) -> Option<Point>
+    ensures { MatchOption result (is_far (at x y) ≡ true) (λ p. (is_far (at x y) ≡ false) × (p ≡ at x y) × IsPlace p) }
+{
+    point_at(x, y)
+}
+
+/// Both facts.
+pub fn both(a: bool, b: bool) -> bool
+    ensures { result ≡ (a && b) }
+{
+    a && b
+}
+
+/// One of the facts.
+pub fn either(a: bool, b: bool) -> bool
+    ensures { result ≡ (a || b) }
+{
+    a || b
+}

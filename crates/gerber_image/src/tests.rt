@@ -1,0 +1,134 @@
+// Small files and what they paint, worked out by hand. Lengths are in nanometres.
+use crate::{GerberError, GerberKind, read_image};
+use board_base::Bounds;
+use std::alloc::Global;
+use std::process::Abort;
+
+// The square round a disc.
+fn disc(x: i32, y: i32, d: u16, dark: bool) -> (Option<Bounds>, bool) {
+    let half = d as i64 * 500;
+    let bounds = Bounds {
+        x0: x as i64 - half,
+        y0: y as i64 - half,
+        x1: x as i64 + half,
+        y1: y as i64 + half,
+    };
+    (Some(bounds), dark)
+}
+
+// The rectangles round the objects of a file, in their order, and which objects are dark.
+fn paints(rt: &impl Abort, alloc: Global, bytes: &[u8], expected: &[(Option<Bounds>, bool)]) {
+    let Ok(painted) = read_image(alloc, bytes) else {
+        panic!(rt; "no image");
+    };
+    assert_eq!(rt; painted.len(), expected.len());
+    for (object, (bounds, dark)) in painted.iter().zip(expected) {
+        assert_eq!(rt; object.shape.bounds(), *bounds);
+        assert_eq!(rt; object.dark, *dark);
+    }
+}
+
+fn refuses(rt: &impl Abort, alloc: Global, bytes: &[u8], kind: GerberKind, at: usize) {
+    match read_image(alloc, bytes) {
+        Ok(_) => panic!(rt; "an image"),
+        Err(e) => assert_eq!(rt; e, GerberError { kind, at }),
+    }
+}
+
+#[test]
+fn repeat_in_a_grid(rt: HostRuntime) {
+    let bytes = b"%FSLAX46Y46*%%MOMM*%%ADD10C,1*%%ADD11C,0.4*%\n%SRX3Y2I2J0.5*%\n\
+        D10*X0Y0D03*%LPC*%D11*X0Y0D03*%SR*%M02*";
+    let expected = [
+        disc(0, 0, 1000, true),
+        disc(0, 0, 400, false),
+        disc(0, 500_000, 1000, true),
+        disc(0, 500_000, 400, false),
+        disc(2_000_000, 0, 1000, true),
+        disc(2_000_000, 0, 400, false),
+        disc(2_000_000, 500_000, 1000, true),
+        disc(2_000_000, 500_000, 400, false),
+        disc(4_000_000, 0, 1000, true),
+        disc(4_000_000, 0, 400, false),
+        disc(4_000_000, 500_000, 1000, true),
+        disc(4_000_000, 500_000, 400, false),
+    ];
+    paints(&rt, rt.alloc(), bytes, &expected);
+}
+
+#[test]
+fn in_the_manner_of_kicad(rt: HostRuntime) {
+    let bytes = b"%TF.GenerationSoftware,KiCad,Pcbnew,7.0.0*%\n%FSLAX46Y46*%\n\
+        G04 Gerber Fmt 4.6, Leading zero omitted, Abs format (unit mm)*\n%MOMM*%\n%LPD*%\nG01*\n\
+        %TA.AperFunction,ComponentPad*%\n%ADD10C,1.600000*%\n%TD*%\n%ADD11C,0.400000*%\nD10*\n\
+        X1000000Y-1000000D03*\nX3540000Y-1000000D03*\nD11*\nX1000000Y-1000000D02*\n\
+        X3540000Y-1000000D01*\nM02*\n";
+    let stroke = Bounds {
+        x0: 800_000,
+        y0: -1_200_000,
+        x1: 3_740_000,
+        y1: -800_000,
+    };
+    let expected = [
+        disc(1_000_000, -1_000_000, 1600, true),
+        disc(3_540_000, -1_000_000, 1600, true),
+        (Some(stroke), true),
+    ];
+    paints(&rt, rt.alloc(), bytes, &expected);
+}
+
+#[test]
+fn inches_turns_and_kept_values(rt: HostRuntime) {
+    // 2 * 25.4 nm is 51 nm. The second flash keeps its x and its act.
+    let inches = b"%FSLAX26Y26*%G70*%ADD10C,0.1*%D10*X2Y0D03*Y1000000*M02*";
+    let expected = [disc(51, 0, 2540, true), disc(51, 25_400_000, 2540, true)];
+    paints(&rt, rt.alloc(), inches, &expected);
+
+    // An obround of 3 mm by 1 mm on its end.
+    let turned = b"%FSLAX46Y46*%%MOMM*%%ADD10O,3X1*%%LMX*%%LR-270.0*%D10*D03*M02*";
+    let upright = Bounds {
+        x0: -500_000,
+        y0: -1_500_000,
+        x1: 500_000,
+        y1: 1_500_000,
+    };
+    paints(&rt, rt.alloc(), turned, &[(Some(upright), true)]);
+}
+
+#[test]
+fn files_that_end_too_early(rt: HostRuntime) {
+    let settings = b"%FSLAX46Y46*%%MOMM*%".as_slice();
+    refuses(&rt, rt.alloc(), settings, GerberKind::NoEnd, 20);
+    let unclosed = b"%FSLAX46Y46*%%MOMM*".as_slice();
+    refuses(&rt, rt.alloc(), unclosed, GerberKind::Syntax, 13);
+}
+
+#[test]
+fn commands_that_are_refused(rt: HostRuntime) {
+    for (bytes, kind, at) in [
+        (b"%MOMM*%G70*M02*".as_slice(), GerberKind::Syntax, 7),
+        (b"X1Y1*", GerberKind::Syntax, 0),
+        (b"G36*", GerberKind::NotBuiltYet, 0),
+        (b"%AMA*1,1,1,0,0*%", GerberKind::NotBuiltYet, 1),
+        (b"G02X1D01*", GerberKind::NotBuiltYet, 0),
+        (b"%AB*%", GerberKind::Unsupported, 1),
+        (
+            b"%MOMM*%%ADD10O,1X2*%D10*X1D01*",
+            GerberKind::Unsupported,
+            24,
+        ),
+        (b"I1D02*", GerberKind::NoFormat, 0),
+        (b"%FSLAX46Y46*%X1D02*", GerberKind::NoUnit, 13),
+        (b"%ADD10C,1*%", GerberKind::NoUnit, 1),
+        (b"D10*", GerberKind::NoAperture, 0),
+        (b"%MOMM*%%SRX2Y1I1J1*%M02*", GerberKind::OpenRepeat, 20),
+        (b"%MOMM*%%ADD10C,1001*%", GerberKind::OutOfRange, 8),
+        (
+            b"%MOMM*%%ADD10C,1*%D10*%SRX1000Y1000I0J0*%D03*D03*%SR*%",
+            GerberKind::TooManyObjects,
+            50,
+        ),
+    ] {
+        refuses(&rt, rt.alloc(), bytes, kind, at);
+    }
+}
