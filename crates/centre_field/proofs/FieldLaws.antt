@@ -1,7 +1,7 @@
 -- Least squares over the places of a frame are clearances.
-use Rattle.std.proofs.Common.{◌≡◌, ℕ, ◌<◌, ◌≤◌, ◌+◌, ◌*◌, ◌/◌, ◌%◌, ◌⊎◌, inl, inr, ℤ, pos, negsuc, ◌+ℤ◌, ◌-ℤ◌, ◌*ℤ◌, ◌≤ℤ◌, ◌<ℤ◌, unsigned_abs, int_le, int_lt, Bool, true, false, cond, ◌&&◌, List, get_or, refl, sym, ap, subst, ◌∙◌, arith}
+use Rattle.std.proofs.Common.{◌≡◌, ℕ, ◌<◌, ◌≤◌, ◌+◌, ◌*◌, ◌/◌, ◌%◌, ◌⊎◌, inl, inr, ℤ, pos, negsuc, ◌+ℤ◌, ◌-ℤ◌, ◌*ℤ◌, ◌≤ℤ◌, unsigned_abs, Bool, true, false, cond, List, get_or, refl, sym, ap, subst, ◌∙◌, arith}
 use Rattle.std.specs.Int.{abs_diff}
-use Rattle.std.proofs.lemmas.Nat.{div-add-mod', mod_below, div_below, mod-mul-add, div-mul-add}
+use Rattle.std.proofs.lemmas.Nat.{mod-mul-add, div-mul-add}
 use borrow.Author.Differences.{ints}
 use Rattle.board_base.specs.declared.places.Cell.{Cell}
 use Rattle.board_base.specs.Lattice.{dist2}
@@ -10,53 +10,12 @@ use Rattle.cell_grid.specs.Place.{InFrame, IsBetween, place_of, row_of, column_o
 use Rattle.cell_grid.specs.Cells.{in_frame, in_plane, number_in}
 use Rattle.cell_grid.specs.Clearance.{IsClearance}
 use Rattle.cell_grid.proofs.PlaceLaws.{place_below}
+use Rattle.cell_grid.proofs.CellsLaws.{in_frame_is, in_frame_true, cell_in, place_cell}
 use Rattle.centre_field.specs.Distances.{square_gap, square_to_place, IsLeast, is_kept_at}
 use Rattle.centre_field.proofs.LeastLaws.{square_to}
 
-both : (a b c d : Bool) → a ≡ true → b ≡ true → c ≡ true → d ≡ true → ((a && b) && (c && d)) ≡ true
-both true true true true p q r s = refl
-both false b c d p q r s = cc
-both true false c d p q r s = cc
-both true true false d p q r s = cc
-both true true true false p q r s = cc
-
-parts : (a b c d : Bool) → ((a && b) && (c && d)) ≡ true → (a ≡ true) × ((b ≡ true) × ((c ≡ true) × (d ≡ true)))
-parts true true true true p = (refl, (refl, (refl, refl)))
-parts false b c d p = cc
-parts true false c d p = cc
-parts true true false d p = cc
-parts true true true false p = cc
-
-to_le : (a b : ℤ) → int_le a b ≡ true → a ≤ℤ b
-to_le a b e = omega (arith, ints)
-
-to_lt : (a b : ℤ) → int_lt a b ≡ true → a <ℤ b
-to_lt a b e = omega (arith, ints)
-
-of_le : (a b : ℤ) → a ≤ℤ b → int_le a b ≡ true
-of_le a b h = sym (omega (arith, ints))
-
-of_lt : (a b : ℤ) → a <ℤ b → int_lt a b ≡ true
-of_lt a b h = sym (omega (arith, ints))
-
--- the test of a frame's cells, and what it says
-pub passes_frame : (f : Frame) (c : Cell) → InFrame f c → in_frame f c ≡ true
-unfolding in_frame
-passes_frame f c h =
-    both (int_le f.i0 c.i) (int_lt c.i (f.i0 +ℤ pos f.width)) (int_le f.j0 c.j) (int_lt c.j (f.j0 +ℤ pos f.height))
-    (of_le _ _ h.column.low) (of_lt _ _ h.column.high) (of_le _ _ h.row.low) (of_lt _ _ h.row.high)
-
-pub from_frame : (f : Frame) (c : Cell) → in_frame f c ≡ true → InFrame f c
-unfolding in_frame
-from_frame f c e =
-    let p = parts (int_le f.i0 c.i) (int_lt c.i (f.i0 +ℤ pos f.width)) (int_le f.j0 c.j) (int_lt c.j (f.j0 +ℤ pos f.height)) e in
-    record {
-      column = record { low = to_le f.i0 c.i p.0; high = to_lt c.i (f.i0 +ℤ pos f.width) p.1.0 };
-      row = record { low = to_le f.j0 c.j p.1.1.0; high = to_lt c.j (f.j0 +ℤ pos f.height) p.1.1.1 };
-    }
-
 by_frame : (f : Frame) (c : Cell) (v : Bool) → cond (in_frame f c) v false ≡ true → (InFrame f c) × (v ≡ true)
-by_frame f c v e = by (in_frame f c) v e (from_frame f c)
+by_frame f c v e = by (in_frame f c) v e (in_frame_is f c)
   where
     by : {P : Type 0} (t v : Bool) → cond t v false ≡ true → (t ≡ true → P) → P × (v ≡ true)
     by true v e k = (k refl, e)
@@ -106,29 +65,6 @@ unfolding place_of
 square_to_cell f c k n h l e =
     square_of_cells f c k h l ∙ ap pos (sym (square_to f.width (column_of f c) (row_of f c) (column_of f k) (row_of f k) n (column_in f k l) e))
 
--- the cell at a place is in the frame, and the place is its
-pub cell_in : (f : Frame) (n : ℕ) → n < cells_of f → InFrame f (cell_of_place f n)
-unfolding cell_of_place
-cell_in f n h =
-    let some : 0 < f.width = wide f.width f.height n h in
-    let m : n % f.width < f.width = mod_below n f.width some in
-    let d : n / f.width < f.height = div_below n f.width f.height some (omega arith) in
-    record {
-      column = record { low = omega (arith, ints); high = omega (arith, ints) };
-      row = record { low = omega (arith, ints); high = omega (arith, ints) };
-    }
-  where
-    wide : (w h n : ℕ) → n < w * h → 0 < w
-    wide w h n k = grind arith
-
-pub place_of_cell : (f : Frame) (n : ℕ) → place_of f (cell_of_place f n) ≡ n
-unfolding cell_of_place place_of
-place_of_cell f n =
-    cc (back f.i0 (n % f.width), back f.j0 (n / f.width), div-add-mod' n f.width)
-  where
-    back : (i : ℤ) (m : ℕ) → unsigned_abs ((i +ℤ pos m) -ℤ i) ≡ m
-    back i m = omega (arith, ints)
-
 never_both : {b : Bool} → b ≡ true → b ≡ false → ⊥
 never_both p q = cc
 
@@ -147,7 +83,7 @@ least_is_clearance f kept c x y v h x_is y_is p = record {
       cell_of_place f w.0,
       (
         plane_on w.0 w.1.0 w.1.1.0,
-        to_cell (cell_of_place f w.0) w.0 (cell_in f w.0 w.1.0) (sym (place_of_cell f w.0)) ∙ ap pos (sym w.1.1.1),
+        to_cell (cell_of_place f w.0) w.0 (cell_in f w.0 w.1.0) (sym (place_cell f w.0 w.1.0)) ∙ ap pos (sym w.1.1.1),
       ),
     )
     | inr w ↦ inr (λ k on. let u = by_frame f k (get_or kept (place_of f k) false) on in never_both u.1 (w.1 (place_of f k) (place_below f k u.0)), w.0)
@@ -159,13 +95,13 @@ least_is_clearance f kept c x y v h x_is y_is p = record {
 
     plane_on : (n : ℕ) → n < cells_of f → get_or kept n false ≡ true → in_plane f kept (cell_of_place f n) ≡ true
     plane_on n l on =
-        ap (λ (t : Bool). cond t (get_or kept (place_of f (cell_of_place f n)) false) false) (passes_frame f (cell_of_place f n) (cell_in f n l))
-        ∙ ap (λ (m : ℕ). get_or kept m false) (place_of_cell f n) ∙ on
+        ap (λ (t : Bool). cond t (get_or kept (place_of f (cell_of_place f n)) false) false) (in_frame_true f (cell_of_place f n) (cell_in f n l))
+        ∙ ap (λ (m : ℕ). get_or kept m false) (place_cell f n l) ∙ on
 
 -- the same from the table, at the cell's place
 pub field_is_clearance : (f : Frame) (kept : List Bool) (table : List ℕ) (c : Cell) → InFrame f c
     → IsLeast (is_kept_at kept) (square_to_place f.width (column_of f c) (row_of f c)) (cells_of f) (get_or table (place_of f c) 0)
     → IsClearance (in_plane f kept) c (number_in f 4294967295 table c)
 field_is_clearance f kept table c h p =
-    subst (λ (n : ℕ). IsClearance (in_plane f kept) c n) (ap (λ (t : Bool). cond t (get_or table (place_of f c) 0) 4294967295) (sym (passes_frame f c h)))
+    subst (λ (n : ℕ). IsClearance (in_plane f kept) c n) (ap (λ (t : Bool). cond t (get_or table (place_of f c) 0) 4294967295) (sym (in_frame_true f c h)))
     (least_is_clearance f kept c (column_of f c) (row_of f c) (get_or table (place_of f c) 0) h refl refl p)

@@ -1,5 +1,5 @@
 -- The contour of the cells before one in the order of rows is traced.
-use Rattle.std.proofs.Common.{◌≡◌, ◌≢◌, ◌⊎◌, inl, inr, ℕ, ◌<◌, ◌≤◌, ◌+◌, ℤ, pos, negsuc, ◌+ℤ◌, ◌-ℤ◌, ◌≤ℤ◌, ◌<ℤ◌, int_le, int_lt, unsigned_abs, Bool, true, false, cond, not, ◌&&◌, ◌||◌, ◌↔◌, List, length, get_or, set, take, slice_index, nat_lt, count_by, refl, sym, ap, subst, ◌∙◌, arith, get_or-set_other, get_or-set_same}
+use Rattle.std.proofs.Common.{◌≡◌, ◌≢◌, ◌⊎◌, inl, inr, ℕ, ◌<◌, ◌≤◌, ◌+◌, ℤ, pos, negsuc, ◌+ℤ◌, ◌-ℤ◌, ◌≤ℤ◌, ◌<ℤ◌, unsigned_abs, Bool, true, false, cond, not, ◌&&◌, ◌||◌, ◌↔◌, List, length, get_or, set, take, slice_index, nat_lt, count_by, refl, sym, ap, subst, ◌∙◌, arith, get_or-set_other, get_or-set_same}
 use Rattle.std.proofs.lemmas.List.{length-set, take-set-le}
 use Rattle.std.proofs.Math.Nat.{add-zero}
 use Rattle.std.proofs.lemmas.List.Sums.{count_by_more_yes, count_by_more_no}
@@ -14,6 +14,7 @@ use Rattle.cell_grid.specs.Grid.{Grid, IsSized}
 use Rattle.cell_grid.specs.Place.{IsFrame, InFrame, IsBetween, place_of, column_of, row_of, cells_of}
 use Rattle.cell_grid.specs.Cells.{in_frame, in_plane, is_above, IsOnBorder}
 use Rattle.cell_grid.proofs.PlaceLaws.{place_below, place_same}
+use Rattle.cell_grid.proofs.CellsLaws.{in_frame_is, in_frame_true}
 use Rattle.contours.specs.Contour.{leaves_column, added_to, moved, IsContourOf}
 
 -- ---- cells of the frame
@@ -29,33 +30,6 @@ first_of false b e = e
 second_of : (a b : Bool) → (a && b) ≡ true → b ≡ true
 second_of true b e = e
 second_of false b e = cc
-
-pub in_frame_true : (f : Frame) (c : Cell) → InFrame f c → in_frame f c ≡ true
-unfolding in_frame
-in_frame_true f c h =
-    both (int_le f.i0 c.i && int_lt c.i (f.i0 +ℤ pos f.width)) (int_le f.j0 c.j && int_lt c.j (f.j0 +ℤ pos f.height))
-    (both (int_le f.i0 c.i) (int_lt c.i (f.i0 +ℤ pos f.width)) (sym (omega (arith, ints))) (sym (omega (arith, ints))))
-    (both (int_le f.j0 c.j) (int_lt c.j (f.j0 +ℤ pos f.height)) (sym (omega (arith, ints))) (sym (omega (arith, ints))))
-
-pub in_frame_is : (f : Frame) (c : Cell) → in_frame f c ≡ true → InFrame f c
-unfolding in_frame
-in_frame_is f c e =
-    let a = first_of (int_le f.i0 c.i && int_lt c.i (f.i0 +ℤ pos f.width)) (int_le f.j0 c.j && int_lt c.j (f.j0 +ℤ pos f.height)) e in
-    let b = second_of (int_le f.i0 c.i && int_lt c.i (f.i0 +ℤ pos f.width)) (int_le f.j0 c.j && int_lt c.j (f.j0 +ℤ pos f.height)) e in
-    let w = first_of (int_le f.i0 c.i) (int_lt c.i (f.i0 +ℤ pos f.width)) a in
-    let x = second_of (int_le f.i0 c.i) (int_lt c.i (f.i0 +ℤ pos f.width)) a in
-    let s = first_of (int_le f.j0 c.j) (int_lt c.j (f.j0 +ℤ pos f.height)) b in
-    let n = second_of (int_le f.j0 c.j) (int_lt c.j (f.j0 +ℤ pos f.height)) b in
-    record { column = record { low = le f.i0 c.i w; high = lt c.i (f.i0 +ℤ pos f.width) x }; row = record { low = le f.j0 c.j s; high = lt c.j (f.j0 +ℤ pos f.height) n } }
-  where
-    le : (a b : ℤ) → int_le a b ≡ true → a ≤ℤ b
-    le a b e = omega (arith, ints)
-
-    lt : (a b : ℤ) → int_lt a b ≡ true → a <ℤ b
-    lt a b e = omega (arith, ints)
-
-pub in_frame_false : (f : Frame) (c : Cell) → (InFrame f c → ⊥) → in_frame f c ≡ false
-in_frame_false f c out = by_bool (in_frame f c) (λ e. absurd (out (in_frame_is f c e))) (λ e. e)
 
 -- ---- the three columns round a cell
 

@@ -51,7 +51,7 @@ fn west_end(frame: Frame, y: u32) -> Cell
 }
 
 // Whether the clearance of a cell is above `g`, as it is outside the frame.
-#[tactic(auto, using(crate::proofs::Traces::in_frame_true, crate::proofs::Traces::in_frame_false))]
+#[tactic(auto, using(cell_grid::proofs::CellsLaws::in_frame_true, cell_grid::proofs::CellsLaws::in_frame_false))]
 #[inline(always)]
 fn is_above(bench: &Workbench, g: u64, c: Cell) -> bool
     ensures { result ≡ is_above_of (bench.now).frame (bench.now).clearances g c }

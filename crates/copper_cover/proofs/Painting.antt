@@ -1,5 +1,5 @@
 -- Objects painted over the cells of a frame.
-use Rattle.std.proofs.Common.{◌≡◌, ◌⊎◌, inl, inr, ℕ, ◌<◌, ◌≤◌, ◌+◌, ◌-◌, ◌*◌, ℤ, pos, ◌+ℤ◌, ◌-ℤ◌, ◌*ℤ◌, ◌≤ℤ◌, ◌<ℤ◌, int_le, int_lt, unsigned_abs, Bool, true, false, cond, not, ◌&&◌, ◌||◌, ◌↔◌, List, [], ◌∷◌, length, get_or, take, set, Option, Some, None, refl, sym, ap, subst, ◌∙◌, arith, get_or-set_other, get_or-set_same}
+use Rattle.std.proofs.Common.{◌≡◌, ◌⊎◌, inl, inr, ℕ, ◌<◌, ◌≤◌, ◌+◌, ◌-◌, ◌*◌, ℤ, pos, ◌+ℤ◌, ◌-ℤ◌, ◌*ℤ◌, ◌≤ℤ◌, ◌<ℤ◌, unsigned_abs, Bool, true, false, cond, not, ◌&&◌, ◌||◌, ◌↔◌, List, [], ◌∷◌, length, get_or, take, set, Option, Some, None, refl, sym, ap, subst, ◌∙◌, arith, get_or-set_other, get_or-set_same}
 use Rattle.std.proofs.lemmas.List.{length-set}
 use Rattle.std.proofs.lemmas.Bool.{cases_eq, false≢true}
 use Rattle.std.proofs.lemmas.Int.{by_lt_z}
@@ -14,8 +14,9 @@ use Rattle.board_base.specs.Lattice.{half_of, middle, centre_of, half_diagonal_o
 use Rattle.cell_grid.specs.declared.frames.Frame.{Frame}
 use Rattle.cell_grid.specs.Grid.{Grid, IsSized}
 use Rattle.cell_grid.specs.Place.{IsFrame, InFrame, IsBetween, place_of, column_of, row_of, cells_of}
-use Rattle.cell_grid.specs.Cells.{in_frame, in_plane}
+use Rattle.cell_grid.specs.Cells.{in_plane}
 use Rattle.cell_grid.proofs.PlaceLaws.{place_below, place_same}
+use Rattle.cell_grid.proofs.CellsLaws.{in_frame_true}
 use Rattle.shape_parts.specs.declared.shape.Piece.{Piece}
 use Rattle.shape_parts.specs.declared.shape.Painted.{Painted}
 use Rattle.shape_parts.specs.Shapes.{shape_touches, shape_covers}
@@ -69,17 +70,6 @@ untouched c h o h_in e b =
     same false false = refl
 
 -- ---- cells of the frame
-
-both : (a b : Bool) → a ≡ true → b ≡ true → (a && b) ≡ true
-both true b e f = f
-both false b e f = e
-
-in_frame_true : (f : Frame) (c : Cell) → InFrame f c → in_frame f c ≡ true
-unfolding in_frame
-in_frame_true f c h =
-    both (int_le f.i0 c.i && int_lt c.i (f.i0 +ℤ pos f.width)) (int_le f.j0 c.j && int_lt c.j (f.j0 +ℤ pos f.height))
-    (both (int_le f.i0 c.i) (int_lt c.i (f.i0 +ℤ pos f.width)) (sym (omega (arith, ints))) (sym (omega (arith, ints))))
-    (both (int_le f.j0 c.j) (int_lt c.j (f.j0 +ℤ pos f.height)) (sym (omega (arith, ints))) (sym (omega (arith, ints))))
 
 pub in_plane_in : (f : Frame) (plane : List Bool) (c : Cell) → InFrame f c → in_plane f plane c ≡ get_or plane (place_of f c) false
 in_plane_in f plane c h = ap (λ (b : Bool). cond b (get_or plane (place_of f c) false) false) (in_frame_true f c h)
