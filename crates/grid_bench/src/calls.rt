@@ -1,7 +1,13 @@
 // The calls that are timed. Each run is over all cells, along the rows.
 ghost use Rattle.std.specs.Prelude.{◌≡◌};
 
+use crate::borders::is_border_above;
+use crate::pattern::is_timed_frame;
 use cell_grid::{Plane, Workbench, cell_at};
+use shape_parts::Painted;
+
+// The squared index distance above which a cell is allowed.
+const GUARD: u64 = 100;
 
 /// A call that is timed.
 #[derive(Clone, Copy, Debug, PartialEq, Eq)]
@@ -9,19 +15,33 @@ pub enum Call {
     Set,
     Get,
     SetClearance,
-    Clearance,
+    GetClearance,
     SetLabel,
+    GetLabel,
+    Cover,
     Label,
+    Clearance,
+    Allowed,
+    Contour,
+    Sweep,
+    Relabel,
 }
 
-/// All of them, in the order in which they run.
-pub const CALLS: [Call; 6] = [
+/// All of them, in the order in which they run: the later ones go by what the earlier ones wrote.
+pub const CALLS: [Call; 13] = [
     Call::Set,
     Call::Get,
     Call::SetClearance,
-    Call::Clearance,
+    Call::GetClearance,
     Call::SetLabel,
+    Call::GetLabel,
+    Call::Cover,
     Call::Label,
+    Call::Clearance,
+    Call::Allowed,
+    Call::Contour,
+    Call::Sweep,
+    Call::Relabel,
 ];
 
 impl Call {
@@ -31,21 +51,36 @@ impl Call {
             Call::Set => "set",
             Call::Get => "get",
             Call::SetClearance => "set_clearance",
-            Call::Clearance => "clearance",
+            Call::GetClearance => "get_clearance",
             Call::SetLabel => "set_label",
+            Call::GetLabel => "get_label",
+            Call::Cover => "cover",
             Call::Label => "label",
+            Call::Clearance => "clearance",
+            Call::Allowed => "allowed",
+            Call::Contour => "contour",
+            Call::Sweep => "sweep",
+            Call::Relabel => "relabel",
         }
     }
 
-    /// Runs it over the grid; the sum of what it read is 0 where it reads nothing.
-    pub fn run(self, bench: &mut Workbench) -> u64 {
+    /// Runs it over the grid; the painted objects are for the call that covers it. Gives the sum of what
+    /// it read, the number of islands or the size of the contour, and 0 where it tells no number.
+    pub fn run(self, bench: &mut Workbench, painted: &Vec<Painted>) -> u64 {
         match self {
             Call::Set => set_all(bench),
             Call::Get => get_all(bench),
             Call::SetClearance => set_all_clearances(bench),
-            Call::Clearance => add_clearances(bench),
+            Call::GetClearance => add_clearances(bench),
             Call::SetLabel => set_all_labels(bench),
-            Call::Label => add_labels(bench),
+            Call::GetLabel => add_labels(bench),
+            Call::Cover => cover(bench, painted),
+            Call::Label => label(bench),
+            Call::Clearance => find_clearances(bench),
+            Call::Allowed => allow(bench),
+            Call::Contour => trace(bench),
+            Call::Sweep => sweep(bench),
+            Call::Relabel => relabel(bench),
         }
     }
 }
@@ -112,4 +147,57 @@ fn add_labels(bench: &Workbench) -> u64 {
         }
     }
     sum
+}
+
+// Covers the grid with the objects, where it has the frame of the pattern.
+fn cover(bench: &mut Workbench, painted: &Vec<Painted>) -> u64 {
+    if is_timed_frame(bench.frame()) {
+        copper_cover::cover(bench, painted);
+    }
+    0
+}
+
+// Numbers the islands, and gives their count, or 0 where there are too many.
+fn label(bench: &mut Workbench) -> u64 {
+    match islands::label(bench) {
+        Ok(count) => count as u64,
+        Err(_) => 0,
+    }
+}
+
+fn find_clearances(bench: &mut Workbench) -> u64 {
+    centre_field::clearance(bench);
+    0
+}
+
+fn allow(bench: &mut Workbench) -> u64 {
+    centre_field::allowed(bench, GUARD);
+    0
+}
+
+// Traces the contour where the border is allowed; looking at the border is timed too.
+fn trace(bench: &mut Workbench) -> u64 {
+    if is_border_above(bench, GUARD) {
+        contours::contour(bench, GUARD)
+    } else {
+        0
+    }
+}
+
+// Sweeps the cells of the contour, and no others.
+fn sweep(bench: &mut Workbench) -> u64 {
+    let frame = bench.frame();
+    'rows: for y in 0..frame.height {
+        'cells: for x in 0..frame.width {
+            let c = cell_at(frame, x, y);
+            let on = bench.get(Plane::Pass, c);
+            bench.set(Plane::Swept, c, on);
+        }
+    }
+    0
+}
+
+fn relabel(bench: &mut Workbench) -> u64 {
+    separation_check::relabel(bench);
+    0
 }

@@ -3,17 +3,23 @@
 //! `Call` in calls.rt, with its name and its body.
 #![tactic(auto)]
 
+mod borders;
 mod calls;
 mod pattern;
 
 use calls::{CALLS, Call};
 use cell_grid::Workbench;
+use shape_parts::Painted;
 use std::io;
 use std::rt::Env;
 use std::time::CpuClock;
 
 // The least of so many runs counts.
 const RUNS: u32 = 5;
+
+// What a grid takes for a cell, in bytes: its planes, its label, its clearance, its working label and its
+// place in the queue.
+const BYTES: u32 = 1 + 2 + 4 + 4 + 4;
 
 // Whether the one word of the command line asks for times.
 fn asks_for_times<R: Env>(rt: &R) -> bool {
@@ -25,12 +31,17 @@ fn asks_for_times<R: Env>(rt: &R) -> bool {
 }
 
 // The least time of some runs of a call over the whole grid, in nanoseconds, and what the last run gave.
-fn least_time<R: CpuClock>(rt: &R, call: Call, bench: &mut Workbench) -> io::Result<(u128, u64)> {
+fn least_time<R: CpuClock>(
+    rt: &R,
+    call: Call,
+    bench: &mut Workbench,
+    painted: &Vec<Painted>,
+) -> io::Result<(u128, u64)> {
     let mut least = u128::MAX;
     let mut sum = 0;
     for _ in 0..RUNS {
         let start = rt.thread_cpu_time()?;
-        sum = call.run(bench);
+        sum = call.run(bench, painted);
         let time = rt.thread_cpu_time()?.saturating_sub(start);
         least = least.min(time.as_nanos());
     }
@@ -45,9 +56,13 @@ fn main(rt: HostRuntime) -> io::Result<()> {
     let Ok(mut bench) = Workbench::reserve(rt.alloc(), frame) else {
         return Err(io::Error::from(io::ErrorKind::OutOfMemory));
     };
+    let Ok(painted) = pattern::discs(rt.alloc()) else {
+        return Err(io::Error::from(io::ErrorKind::OutOfMemory));
+    };
     pattern::keep_discs(&mut bench);
+    println!(rt; "{BYTES} bytes a cell")?;
     for call in CALLS {
-        let (nanoseconds, sum) = least_time(&rt, call, &mut bench)?;
+        let (nanoseconds, sum) = least_time(&rt, call, &mut bench, &painted)?;
         let hundredths = nanoseconds / (pattern::CELLS / 100);
         println!(rt;
             "{:16} {}.{:02} ns a cell, sum {sum}",

@@ -1,0 +1,5 @@
+use Rattle.std.proofs.Common.{◌≡◌, ℕ, ◌<◌, ◌+◌, ◌*◌, true, nat_lt, slice_index}
+use Rattle.grid_bench.proofs.borders.is_column_above.Given as goal
+
+abbrev pub invariant-cells : goal.invariant-cells
+invariant-cells l = (k : ℕ) → k < l.y → nat_lt l.g (slice_index (l.bench).clearances (k * (l.bench).frame.width + l.x)) ≡ true
