@@ -14,7 +14,9 @@ use Rattle.rs274_sim.specs.declared.line.Line.{Line}
 use Rattle.rs274_sim.specs.Runs.{Runs, RunsTo}
 use Rattle.rs274_sim.specs.Spelling.{text_of}
 use Rattle.rs274_sim.specs.Text.{StandsFor}
-use Rattle.flash_file.specs.Flashes.{image_of}
+use Rattle.gerber_image.specs.Gerber.{Outcome, StandsFor as StandsForImage}
+use Rattle.gerber_image.specs.Computed.{outcome_of}
+use Rattle.gerber_image.proofs.OutcomeLaws.{each_has_outcome}
 use Rattle.mill_plan.specs.declared.job.Job.{Job}
 use Rattle.mill_plan.specs.declared.isolation.Isolation.{Isolation}
 use Rattle.mill_plan.specs.Mills.{Mills}
@@ -25,7 +27,7 @@ use Rattle.mill_top.specs.declared.status.Status.TheVariants.{Done, TooLong}
 use Rattle.mill_top.specs.Words.{Spec, spec_of}
 use Rattle.mill_top.specs.Limits.{most_bytes}
 use Rattle.mill_top.specs.Answers.{usage, accepted_bytes, input, IfTold}
-use Rattle.mill_top.specs.Accepted.{Accepts, accepted, image, of_this_form}
+use Rattle.mill_top.specs.Accepted.{Accepts, accepted, image, painted_or_refused}
 use Rattle.mill_top.specs.Outputs.{Output, all_stored}
 use Rattle.mill_top.specs.Report.{side_of, report_text}
 use Rattle.mill_top.specs.Fits.{Fits, files_of}
@@ -57,14 +59,17 @@ bytes_accepted role (Some held) bytes e = by_case (nat_lt most_bytes (length hel
     by_case true e = absurd (cc)
     by_case false e = cc
 
-image_accepted : (role : Role) (o : Option (List Painted)) (painted : List Painted) → of_this_form role o ≡ Ok painted → o ≡ Some painted
-image_accepted role None painted e = absurd (cc)
-image_accepted role (Some found) painted e = cc
+outcome_accepted : (role : Role) (o : Outcome) (painted : List Painted) → painted_or_refused role o ≡ Ok painted → o ≡ Ok painted
+outcome_accepted role (Err refusal) painted e = absurd (cc)
+outcome_accepted role (Ok found) painted e = cc
+
+image_accepted : (role : Role) (bytes : List ℕ) (painted : List Painted) → image role bytes ≡ Ok painted → StandsForImage bytes (Ok painted)
+image_accepted role bytes painted e = subst (StandsForImage bytes) (outcome_accepted role (outcome_of bytes) painted e) (each_has_outcome bytes)
 
 -- what was accepted, step by step
 abbrev pub StepsOf : List (List ℕ) → Files → Accepts → Type 0
 StepsOf words files x =
-    (spec : Spec) × (spec_of words ≡ Ok spec) × (front : List ℕ) × (get files spec.front ≡ Some front) × (image_of front ≡ Some x.painted) × (x.job ≡ spec.job)
+    (spec : Spec) × (spec_of words ≡ Ok spec) × (front : List ℕ) × (get files spec.front ≡ Some front) × StandsForImage front (Ok x.painted) × (x.job ≡ spec.job)
 
 of_ok : Accepts → Result Accepts Status → Accepts
 of_ok other (Ok x) = x
@@ -77,7 +82,7 @@ steps words files x e =
     let second = step (input roles.Front (first.0).front files) _ x first.2 in
     let third = step (image roles.Front second.0) _ x second.2 in
     let same = ap (of_ok x) third.2 in
-    (first.0, words_accepted _ _ first.1, second.0, bytes_accepted roles.Front _ _ second.1, image_accepted roles.Front _ _ third.1 ∙ ap (λ a. Some a.painted) same, sym (ap (λ a. a.job) same))
+    (first.0, words_accepted _ _ first.1, second.0, bytes_accepted roles.Front _ _ second.1, subst (λ a. StandsForImage second.0 (Ok a.painted)) same (image_accepted roles.Front _ _ third.1), sym (ap (λ a. a.job) same))
 
 planned : (job spec_job : Job) (painted : List Painted) (plan : Isolation) → job ≡ spec_job → IsIsolationOf job painted plan → StandsFor (text_of (lines_of plan.program)) (lines_of plan.program)
     → IsPlanned (record { job = spec_job; painted = painted; program = text_of (lines_of plan.program); report = report_text (codes "front") (side_of plan) })

@@ -5,13 +5,12 @@ ghost use Rattle.mill_plan.specs.Job.{IsJob};
 ghost use Rattle.mill_top.specs.Words.{texts};
 ghost use Rattle.mill_top.specs.Run.{IsExactUsage, status_of};
 ghost use Rattle.mill_top.specs.Answers.{Gives, MakesOf};
-ghost use Rattle.mill_top.specs.Accepted.{accepts_of, accepted, image};
+ghost use Rattle.mill_top.specs.Accepted.{accepts_of, accepted, refused_as, image};
 
 use crate::inputs::read_input;
 use crate::words::read_words;
-use crate::{GerberError, GerberKind, Status};
+use crate::{GerberError, GerberKind, LimitHit, Status};
 use board_base::{Role, Shelf};
-use flash_file::{FlashError, read_flashes};
 use mill_plan::Job;
 use shape_parts::Painted;
 use std::alloc::Global;
@@ -23,20 +22,24 @@ pub struct Accepted {
     pub painted: Vec<Painted>,
 }
 
+// What a refusal of a Gerber file is to the command.
+fn refusal(role: Role, error: GerberError) -> Status
+    ensures { result ≡ refused_as role error.kind error.at }
+{
+    match error.kind {
+        GerberKind::TooManyObjects => Status::Limit(LimitHit::Objects),
+        GerberKind::Memory => Status::Memory,
+        _ => Status::Gerber { role, error },
+    }
+}
+
 // The image of a file.
 fn read_image(alloc: Global, role: Role, bytes: &[u8]) -> Result<Vec<Painted>, Status>
     ensures made { MakesOf (λ v. v.items) (image role bytes.now) result }
 {
-    match read_flashes(alloc, bytes) {
+    match gerber_image::read_image(alloc, bytes) {
         Ok(painted) => Ok(painted),
-        Err(FlashError::NotThisForm) => Err(Status::Gerber {
-            role,
-            error: GerberError {
-                kind: GerberKind::NotBuiltYet,
-                at: 0,
-            },
-        }),
-        Err(FlashError::Memory) => Err(Status::Memory),
+        Err(error) => Err(refusal(role, error)),
     }
 }
 

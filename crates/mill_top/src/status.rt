@@ -2,23 +2,8 @@
 ghost use Rattle.std.specs.Prelude.{◌≡◌};
 
 use board_base::Role;
+use gerber_image::GerberError;
 use mill_plan::LimitHit;
-
-/// Why a Gerber file is refused.
-#[derive(Clone, Copy, Debug, PartialEq, Eq)]
-pub enum GerberKind {
-    /// The file is outside the form that is read so far.
-    NotBuiltYet,
-    /// There was no memory. No status carries it: it becomes `Status::Memory`.
-    Memory,
-}
-
-/// A refusal of a Gerber file, at an offset in bytes from 0.
-#[derive(Clone, Copy, Debug, PartialEq, Eq)]
-pub struct GerberError {
-    pub kind: GerberKind,
-    pub at: usize,
-}
 
 /// The outcome of a command.
 #[derive(Clone, Copy, Debug, PartialEq, Eq)]
@@ -28,11 +13,12 @@ pub enum Status {
     /// The words are outside the command grammar; `word` counts from 1, and is one more than the count
     /// of words where a word is missing.
     Usage { word: u32 },
-    /// A Gerber file is outside its grammar.
+    /// A Gerber file has no image. No status carries its kinds TooManyObjects and Memory: they become
+    /// `Limit` and `Memory`.
     Gerber { role: Role, error: GerberError },
     /// An input has more than 16,777,216 bytes.
     TooLong { role: Role },
-    /// The front passes a limit of what is planned.
+    /// The front passes a limit of what is read or planned.
     Limit(LimitHit),
     /// An input could not be read.
     ReadFault { role: Role },

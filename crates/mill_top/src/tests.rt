@@ -15,6 +15,13 @@ const ONE_DISC: &[u8] =
 const NEAR_DISCS: &[u8] =
     b"%FSLAX46Y46*%\n%MOMM*%\n%ADD10C,0.100000*%\nD10*\nX100000Y100000D03*\nX500000Y100000D03*\nM02*\n";
 
+// Two pads and a track between them.
+const TRACK: &[u8] = b"%TF.GenerationSoftware,KiCad,Pcbnew,7.0.0*%\n%FSLAX46Y46*%\n\
+    G04 Gerber Fmt 4.6, Leading zero omitted, Abs format (unit mm)*\n%MOMM*%\n%LPD*%\nG01*\n\
+    %TA.AperFunction,ComponentPad*%\n%ADD10C,1.600000*%\n%TD*%\n%ADD11C,0.400000*%\nD10*\n\
+    X1000000Y-1000000D03*\nX3540000Y-1000000D03*\nD11*\nX1000000Y-1000000D02*\n\
+    X3540000Y-1000000D01*\nM02*\n";
+
 const WORDS: [&str; 7] = [
     "mill",
     "-",
@@ -137,6 +144,14 @@ fn reports_tell_the_counts_and_the_groups(rt: HostRuntime) -> Result<(), Fail> {
             NEAR_DISCS,
             "pcbmill report 1\nfront frame 9 7 kept 2 islands 2 centres 20\nfront joined 1 2\nend\n",
         ),
+        (
+            TRACK,
+            "pcbmill report 1\nfront frame 28 16 kept 152 islands 1 centres 88\nend\n",
+        ),
+        (
+            b"M02*",
+            "pcbmill report 1\nfront frame 0 0 kept 0 islands 0 centres 0\nend\n",
+        ),
     ] {
         let mut shelf = shelf_with(alloc, front)?;
         let (status, _) = carried_out(alloc, &WORDS, &mut shelf)?;
@@ -185,6 +200,7 @@ fn limits_have_lines(rt: HostRuntime) -> Result<(), Fail> {
             "pcbmill: limit: Reach -500050000\n",
         ),
         (LimitHit::Islands, "pcbmill: limit: Islands\n"),
+        (LimitHit::Objects, "pcbmill: limit: Objects\n"),
     ] {
         assert_eq!(rt; line(alloc, Status::Limit(hit))?.as_str(), text);
         assert_eq!(rt; Status::Limit(hit).number(), 7);
@@ -255,29 +271,56 @@ fn faults_are_told(rt: HostRuntime) -> Result<(), Fail> {
     assert!(rt; shelf.get("front.ngc").is_none());
 
     let mut shelf = MemoryShelf::new(alloc);
-    shelf.add("a.gbr", b"M02*\n")?;
-    let (status, lines) = carried_out(alloc, &WORDS, &mut shelf)?;
-    let error = GerberError {
-        kind: GerberKind::NotBuiltYet,
-        at: 0,
-    };
-    assert_eq!(rt;
-        status,
-        Status::Gerber {
-            role: Role::Front,
-            error
-        }
-    );
-    assert_eq!(rt;
-        lines.as_slice(),
-        b"pcbmill: front: NotBuiltYet at 0\n".as_slice()
-    );
-
-    let mut shelf = MemoryShelf::new(alloc);
     shelf.add("a.gbr", &vec![in alloc; b' '; 16_777_217]?)?;
     let (status, lines) = carried_out(alloc, &WORDS, &mut shelf)?;
     assert_eq!(rt; status, Status::TooLong { role: Role::Front });
     assert_eq!(rt; lines.as_slice(), b"pcbmill: long front\n".as_slice());
+    Ok(())
+}
+
+// A file without an image, and where it is refused.
+#[test]
+fn files_without_an_image_are_refused(rt: HostRuntime) -> Result<(), Fail> {
+    let alloc = rt.alloc();
+    for (front, kind, at, text) in [
+        (
+            b"%FSLAX46Y46*%%MOMM*%".as_slice(),
+            GerberKind::NoEnd,
+            20,
+            "pcbmill: front: NoEnd at 20\n",
+        ),
+        (
+            b"%FSLAX46Y46*%%MOMM*",
+            GerberKind::Syntax,
+            13,
+            "pcbmill: front: Syntax at 13\n",
+        ),
+        (
+            b"%FSLAX46Y46*%\nG04 no unit*\nX0Y0D03*\nM02*",
+            GerberKind::NoUnit,
+            27,
+            "pcbmill: front: NoUnit at 27\n",
+        ),
+        (
+            b"%FSLAX46Y46*%\n%MOMM*%\nG36*\nX0Y0D02*\nG37*\nM02*",
+            GerberKind::NotBuiltYet,
+            22,
+            "pcbmill: front: NotBuiltYet at 22\n",
+        ),
+    ] {
+        let mut shelf = shelf_with(alloc, front)?;
+        let (status, lines) = carried_out(alloc, &WORDS, &mut shelf)?;
+        let error = GerberError { kind, at };
+        assert_eq!(rt;
+            status,
+            Status::Gerber {
+                role: Role::Front,
+                error
+            }
+        );
+        assert_eq!(rt; lines.as_slice(), text.as_bytes());
+        assert!(rt; shelf.get("front.ngc").is_none());
+    }
     Ok(())
 }
 
