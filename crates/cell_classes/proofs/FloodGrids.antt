@@ -8,10 +8,10 @@ use Rattle.cell_grid.specs.Grid.{Grid, plane_of}
 use Rattle.cell_grid.specs.Place.{InFrame, place_of, cells_of}
 use Rattle.cell_grid.specs.Cells.{number_in}
 use Rattle.cell_grid.proofs.PlaceLaws.{place_below}
+use Rattle.cell_grid.proofs.CellsLaws.{in_frame_is}
 use Rattle.cell_classes.specs.Ways.{neighbour_of}
 use Rattle.cell_classes.specs.Taken.{is_taken, outer_number}
 use Rattle.cell_classes.specs.Floods.{ChangesNumbers, IsOpen, numbered, IsSpread, IsPassed, IsReady, IsFlooded, IsFresh, IsGrown}
-use Rattle.cell_classes.proofs.Frames.{inside}
 use Rattle.cell_classes.proofs.Numbers.{number_inside, plane_same, room}
 use Rattle.cell_classes.proofs.Flooding.{IsFlooding, nowhere, taken_one, fewer, turned, passed, ended, begun, flooded, seeded_ready, grown}
 
@@ -57,7 +57,7 @@ module _ (start : Grid) (p : Plane) (on : Bool) (v : ℕ) where
     };
     less =
         let b = neighbour_of at turn in
-        let k = place_below start.frame b (inside start.frame b o.inside) in
+        let k = place_below start.frame b (in_frame_is start.frame b o.inside) in
         let r = room g.works (cells_of start.frame) (place_of start.frame b) v g.put q.flooding.len q.flooding.count q.flooding.ready.some k (sym (number_inside start.frame (outer_number on) g.works b o.inside) ∙ o.free) in
         omega (arith, r, length-append g.waiting (b ∷ []));
   })
@@ -143,5 +143,5 @@ module _ (g g1 g2 : Grid) (p : Plane) (on : Bool) (seed : Cell) (v : ℕ) (clear
 pub fresh_put : (g g1 : Grid) (p : Plane) (on : Bool) (seed : Cell) (v : ℕ) → g1 ≡ record g { waiting = []; put = 0 } → IsFresh g.frame (is_taken on g.frame (plane_of g p)) (outer_number on) g.works seed v
     → InFrame g1.frame seed × (g1.put < cells_of g1.frame)
 fresh_put g g1 p on seed v e r =
-    let k = place_below g.frame seed (inside g.frame seed r.inside) in
-    subst (λ (h : Grid). InFrame h.frame seed × (h.put < cells_of h.frame)) (sym e) (inside g.frame seed r.inside, omega (arith, k))
+    let k = place_below g.frame seed (in_frame_is g.frame seed r.inside) in
+    subst (λ (h : Grid). InFrame h.frame seed × (h.put < cells_of h.frame)) (sym e) (in_frame_is g.frame seed r.inside, omega (arith, k))

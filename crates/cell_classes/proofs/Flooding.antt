@@ -11,9 +11,10 @@ use Rattle.cell_grid.specs.Place.{place_of, cells_of}
 use Rattle.cell_grid.specs.Cells.{in_frame, number_in}
 use Rattle.cell_grid.specs.Chains.{Chain, IsLinked}
 use Rattle.cell_grid.proofs.PlaceLaws.{place_below}
+use Rattle.cell_grid.proofs.CellsLaws.{in_frame_is}
 use Rattle.cell_classes.specs.Ways.{neighbour_of}
 use Rattle.cell_classes.specs.Floods.{IsOpen, IsReady, IsReached, IsFlooded, IsFresh, IsGrown}
-use Rattle.cell_classes.proofs.Frames.{cell, inside}
+use Rattle.cell_classes.proofs.Frames.{cell}
 use Rattle.cell_classes.proofs.Links.{beside_sym, beside_neighbour, neighbours, linked_self, linked_end}
 use Rattle.cell_classes.proofs.Numbers.{number_inside, number_all, count_one, count_none, written_here, written_else, here_or_else, still, split}
 
@@ -127,7 +128,7 @@ module _ (f : Frame) (taken : Cell → Bool) (outer v : ℕ) (old : List ℕ) (s
   spread_one works waiting put at turn p turn_in o =
       let b = neighbour_of at turn in
       let works' = set works (place_of f b) v in
-      let b_below = place_below f b (inside f b o.inside) in
+      let b_below = place_below f b (in_frame_is f b o.inside) in
       let b_free : get_or works (place_of f b) 0 ≡ 0 = sym (number_inside f outer works b o.inside) ∙ o.free in
       let more = count_one works (place_of f b) v (omega (arith, b_below, p.len)) b_free p.ready.some in
       let own_b = written_here f outer works b v o.inside p.len in
@@ -273,7 +274,7 @@ pub seeded_ready : (f : Frame) (taken : Cell → Bool) (outer : ℕ) (works : Li
     → IsReady f taken outer v (set works (place_of f seed) v) ([] ++ seed ∷ []) (0 + 1)
 seeded_ready f taken outer works seed v len r =
     let works' = set works (place_of f seed) v in
-    let below = place_below f seed (inside f seed r.inside) in
+    let below = place_below f seed (in_frame_is f seed r.inside) in
     let fresh : (a : Cell) → number_in f outer works a ≢ v = number_all (λ n. n ≢ v) f outer works r.apart r.fresh in
     let own : number_in f outer works' seed ≡ v = written_here f outer works seed v r.inside len in
     let mine : (a : Cell) → number_in f outer works' a ≡ v → a ≡ seed =

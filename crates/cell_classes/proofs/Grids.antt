@@ -11,10 +11,10 @@ use Rattle.cell_grid.specs.Cells.{number_in, IsOnBorder}
 use Rattle.cell_grid.specs.Chains.{IsClasses}
 use Rattle.cell_grid.specs.Islands.{AreIslands}
 use Rattle.cell_grid.proofs.PlaceLaws.{place_below}
+use Rattle.cell_grid.proofs.CellsLaws.{in_frame_true}
 use Rattle.cell_classes.specs.Taken.{is_taken}
 use Rattle.cell_classes.specs.Floods.{ChangesNumbers, IsOpen, numbered, IsReady, IsFlooded}
 use Rattle.cell_classes.specs.Classes.{IsBegun, IsNumbered, IsSeeded}
-use Rattle.cell_classes.proofs.Frames.{of_inside}
 use Rattle.cell_classes.proofs.Numbers.{number_all, number_inside, room, rest_outside}
 use Rattle.cell_classes.proofs.FloodGrids.{taken_as}
 use Rattle.cell_classes.proofs.Seeds.{IsSeeding, none_seeded, seed_on, seed_off, all_seeded, border_ready, border_begun}
@@ -114,7 +114,7 @@ module _ (start : Grid) (p : Plane) where
   pub seed_room : (frame : Frame) (g : Grid) (n : ℕ) (c : Cell) → IsSeedingAt frame g n → InFrame frame c → place_of frame c ≡ n → InFrame g.frame c × (g.put < cells_of g.frame)
   seed_room frame g n c q c_in at_n =
       let c_start = subst (λ (f : Frame). InFrame f c) q.same_frame c_in in
-      let i = of_inside start.frame c c_start in
+      let i = in_frame_true start.frame c c_start in
       let at : place_of start.frame c ≡ n = ap (λ (f : Frame). place_of f c) (sym q.same_frame) ∙ at_n in
       let free = sym (number_inside start.frame 1 g.works c i) ∙ q.seeding.late c i (omega (arith, at)) in
       let r = room g.works (cells_of start.frame) (place_of start.frame c) 1 g.put q.seeding.len q.seeding.count (omega arith) (place_below start.frame c c_start) free in

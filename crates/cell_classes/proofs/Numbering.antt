@@ -7,10 +7,10 @@ use Rattle.cell_grid.specs.Place.{InFrame, place_of, cells_of}
 use Rattle.cell_grid.specs.Cells.{in_frame, number_in}
 use Rattle.cell_grid.specs.Chains.{IsBefore, IsLinked}
 use Rattle.cell_grid.proofs.PlaceLaws.{place_below, place_same}
+use Rattle.cell_grid.proofs.CellsLaws.{in_frame_is, before}
 use Rattle.number_laws.proofs.Tests.{by_bool}
 use Rattle.cell_classes.specs.Floods.{IsOpen, IsFresh, IsGrown}
 use Rattle.cell_classes.specs.Classes.{IsBegun, IsNumbered}
-use Rattle.cell_classes.proofs.Frames.{inside, before}
 use Rattle.cell_classes.proofs.Links.{linked_self, linked_sym, linked_trans, linked_step, linked_end, linked_start}
 use Rattle.cell_classes.proofs.Numbers.{number_outside, at_places}
 
@@ -88,7 +88,7 @@ module _ (f : Frame) (taken : Cell → Bool) (outer : ℕ) where
         ];
         early = λ a i l k z. elim (cases_eq (place_of f a) n) as (λ _. ⊥) [
           | inl e ↦
-              let one : a ≡ s = place_same f a s (inside f a i) (inside f s o.inside) (e ∙ sym at_n) in
+              let one : a ≡ s = place_same f a s (in_frame_is f a i) (in_frame_is f s o.inside) (e ∙ sym at_n) in
               omega (arith, sym (ap (number_in f outer new) one) ∙ z, own)
           | inr ne ↦ let some = p.early a i (omega arith) k in some (sym (stays a some) ∙ z)
         ];
@@ -117,7 +117,7 @@ module _ (f : Frame) (taken : Cell → Bool) (outer : ℕ) where
           | inl e ↦
               let q = p.present u low (omega (arith, less, e)) in
               let later = not_early a e in
-              (q.0, (before f q.0 a (inside f q.0 q.1.0) (inside f a later.0) (omega (arith, later.1, q.1.1)), stays q.0 (λ z. omega (arith, z, q.1.2, low)) ∙ q.1.2))
+              (q.0, (before f q.0 a (in_frame_is f q.0 q.1.0) (in_frame_is f a later.0) (omega (arith, later.1, q.1.1)), stays q.0 (λ z. omega (arith, z, q.1.2, low)) ∙ q.1.2))
           | inr e ↦
               let q = p.order a u low (omega (arith, less, e)) in
               (q.0, (q.1.0, stays q.0 (λ z. omega (arith, z, q.1.1, low)) ∙ q.1.1))
@@ -148,7 +148,7 @@ module _ (f : Frame) (taken : Cell → Bool) (outer : ℕ) where
     outside = p.outside;
     clear = p.clear;
     early = λ a i l k. elim (cases_eq (place_of f a) n) as (λ _. number_in f outer works a ≢ 0) [
-      | inl e ↦ λ z. closed (subst (IsOpen f taken outer works) (place_same f a s (inside f a i) s_in (e ∙ sym at_n)) (record { inside = i; taken_there = k; free = z }))
+      | inl e ↦ λ z. closed (subst (IsOpen f taken outer works) (place_same f a s (in_frame_is f a i) s_in (e ∙ sym at_n)) (record { inside = i; taken_there = k; free = z }))
       | inr ne ↦ p.early a i (omega arith) k
     ];
     few = p.few;
@@ -175,5 +175,5 @@ module _ (f : Frame) (taken : Cell → Bool) (outer : ℕ) where
       numbered : (a : Cell) → taken a ≡ true → number_in f outer works a ≢ 0
       numbered a k =
           by_bool (in_frame f a)
-          (λ i. let l = place_below f a (inside f a i) in p.early a i (omega (arith, past, l)) k)
+          (λ i. let l = place_below f a (in_frame_is f a i) in p.early a i (omega (arith, past, l)) k)
           (λ out z. omega (arith, sym (number_outside f outer works a out) ∙ z, p.outside a out k))

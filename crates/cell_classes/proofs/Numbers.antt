@@ -12,10 +12,10 @@ use Rattle.cell_grid.specs.Grid.{Grid, plane_of}
 use Rattle.cell_grid.specs.Place.{InFrame, place_of, cells_of, cell_of_place}
 use Rattle.cell_grid.specs.Cells.{in_frame, number_in}
 use Rattle.cell_grid.proofs.PlaceLaws.{place_below, place_same}
+use Rattle.cell_grid.proofs.CellsLaws.{in_frame_is, in_frame_true, cell_in, place_cell}
 use Rattle.number_laws.proofs.Tests.{by_bool}
 use Rattle.cell_classes.specs.Taken.{is_taken, outer_number}
 use Rattle.cell_classes.specs.Floods.{IsOpen}
-use Rattle.cell_classes.proofs.Frames.{inside, of_inside, cell_in, place_cell}
 
 pub cond_at : {A : Type 0} (t : Bool) (x y : A) → t ≡ true → cond t x y ≡ x
 cond_at true x y e = refl
@@ -43,7 +43,7 @@ pub at_places : (P : ℕ → Type 0) (f : Frame) (outer : ℕ) (works : List ℕ
 at_places P f outer works len each none k =
     elim (cases_lt k (cells_of f)) as (λ _. P (slice_index works k)) [
       | inl l ↦
-          subst P (number_inside f outer works (cell_of_place f k) (of_inside f (cell_of_place f k) (cell_in f k l)) ∙ ap (λ (n : ℕ). get_or works n 0) (place_cell f k l))
+          subst P (number_inside f outer works (cell_of_place f k) (in_frame_true f (cell_of_place f k) (cell_in f k l)) ∙ ap (λ (n : ℕ). get_or works n 0) (place_cell f k l))
           (each (cell_of_place f k))
       | inr past ↦ subst P (sym (get_or_past works k 0 (omega (arith, past, len)))) none
     ]
@@ -71,7 +71,7 @@ rest_outside f plane c o = ap not (cond_off (in_frame f c) (get_or plane (place_
 pub open_at : (on : Bool) (f : Frame) (plane : List Bool) (works : List ℕ) (c : Cell) (r : Bool) (n : ℕ) → InFrame f c → r ≡ get_or plane (place_of f c) false → beq r on ≡ true
     → n ≡ get_or works (place_of f c) 0 → (n == 0) ≡ true → IsOpen f (is_taken on f plane) (outer_number on) works c
 open_at on f plane works c r n h read same number none =
-    let e = of_inside f c h in
+    let e = in_frame_true f c h in
     record {
       inside = e;
       taken_there = taken_inside on f plane c e ∙ ap (λ (b : Bool). beq b on) (sym read) ∙ same;
@@ -126,7 +126,7 @@ full works size v put len count = omega (arith, count, len, count_by-le-length (
 -- the number of one cell is written
 module _ (f : Frame) (outer : ℕ) (works : List ℕ) (b : Cell) (v : ℕ) (b_in : in_frame f b ≡ true) (len : length works ≡ cells_of f) where
   b_below : place_of f b < length works
-  b_below = let l = place_below f b (inside f b b_in) in omega (arith, l, len)
+  b_below = let l = place_below f b (in_frame_is f b b_in) in omega (arith, l, len)
 
   pub written_here : number_in f outer (set works (place_of f b) v) b ≡ v
   written_here = number_inside f outer (set works (place_of f b) v) b b_in ∙ get_or-set_same works (place_of f b) v 0 b_below
@@ -135,7 +135,7 @@ module _ (f : Frame) (outer : ℕ) (works : List ℕ) (b : Cell) (v : ℕ) (b_in
   written_else a ne =
       by_bool (in_frame f a)
       (λ i.
-      let apart : place_of f a ≢ place_of f b = λ e. ne (place_same f a b (inside f a i) (inside f b b_in) e) in
+      let apart : place_of f a ≢ place_of f b = λ e. ne (place_same f a b (in_frame_is f a i) (in_frame_is f b b_in) e) in
       number_inside f outer (set works (place_of f b) v) a i ∙ get_or-set_other works (place_of f b) (place_of f a) v 0 apart ∙ sym (number_inside f outer works a i))
       (λ o. number_outside f outer (set works (place_of f b) v) a o ∙ sym (number_outside f outer works a o))
 
@@ -143,7 +143,7 @@ module _ (f : Frame) (outer : ℕ) (works : List ℕ) (b : Cell) (v : ℕ) (b_in
   here_or_else a =
       by_bool (in_frame f a)
       (λ i. elim (cases_eq (place_of f a) (place_of f b)) as (λ _. (a ≡ b) ⊎ (a ≢ b)) [
-        | inl e ↦ inl (place_same f a b (inside f a i) (inside f b b_in) e)
+        | inl e ↦ inl (place_same f a b (in_frame_is f a i) (in_frame_is f b b_in) e)
         | inr ne ↦ inr (λ e. ne (ap (place_of f) e))
       ])
       (λ o. inr (λ e. false≢true (sym o ∙ ap (in_frame f) e ∙ b_in)))

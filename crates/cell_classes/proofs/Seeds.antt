@@ -12,10 +12,11 @@ use Rattle.cell_grid.specs.Place.{InFrame, IsBetween, place_of, row_of, column_o
 use Rattle.cell_grid.specs.Cells.{in_frame, number_in, IsOnBorder}
 use Rattle.cell_grid.specs.Chains.{IsLinked}
 use Rattle.cell_grid.proofs.PlaceLaws.{place_below, place_same}
+use Rattle.cell_grid.proofs.CellsLaws.{in_frame_is, in_frame_true, in_frame_false}
 use Rattle.number_laws.proofs.Tests.{by_bool}
 use Rattle.cell_classes.specs.Floods.{IsOpen, IsReady, IsReached, IsFlooded}
 use Rattle.cell_classes.specs.Classes.{IsBegun, IsEdge, IsSeeded}
-use Rattle.cell_classes.proofs.Frames.{cell, inside, of_inside, not_inside}
+use Rattle.cell_classes.proofs.Frames.{cell}
 use Rattle.cell_classes.proofs.Links.{beside_sym, linked_sym, linked_trans, linked_step, linked_end, linked_start, outside_linked}
 use Rattle.cell_classes.proofs.Numbers.{number_inside, number_outside, number_all, count_one, count_none, written_here, written_else, here_or_else, still, split}
 use Rattle.cell_classes.proofs.Flooding.{none_contained}
@@ -29,7 +30,7 @@ row_is f c y e = omega (arith, ints)
 
 pub edge_border : (f : Frame) (c : Cell) (x y : ℕ) → InFrame f c → c.i ≡ f.i0 +ℤ pos x → c.j ≡ f.j0 +ℤ pos y → IsEdge f x y → IsOnBorder f c
 edge_border f c x y h i j e = record {
-  inside = of_inside f c h;
+  inside = in_frame_true f c h;
   edge = subst (λ (n : ℕ). (n ≡ 0) ⊎ (n + 1 ≡ f.width) ⊎ (row_of f c ≡ 0) ⊎ (row_of f c + 1 ≡ f.height)) (sym (column_is f c x i))
       (subst (λ (n : ℕ). (x ≡ 0) ⊎ (x + 1 ≡ f.width) ⊎ (n ≡ 0) ⊎ (n + 1 ≡ f.height)) (sym (row_is f c y j)) e);
 }
@@ -42,7 +43,7 @@ border_edge f c x y i j b =
 -- a cell of the frame with a neighbour outside stands on the border
 pub border_of : (f : Frame) (c d : Cell) → InFrame f c → in_frame f d ≡ false → IsBeside c d → IsOnBorder f c
 border_of f c d h out s = record {
-  inside = of_inside f c h;
+  inside = in_frame_true f c h;
   edge =
       elim (cases_eq (column_of f c) 0) as (λ _. (column_of f c ≡ 0) ⊎ (column_of f c + 1 ≡ f.width) ⊎ (row_of f c ≡ 0) ⊎ (row_of f c + 1 ≡ f.height)) [
         | inl e ↦ inl e
@@ -52,7 +53,7 @@ border_of f c d h out s = record {
             | inl e ↦ inr (inr (inl e))
             | inr n3 ↦ elim (cases_eq (row_of f c + 1) f.height) as (λ _. (column_of f c ≡ 0) ⊎ (column_of f c + 1 ≡ f.width) ⊎ (row_of f c ≡ 0) ⊎ (row_of f c + 1 ≡ f.height)) [
               | inl e ↦ inr (inr (inr e))
-              | inr n4 ↦ absurd (false≢true (sym out ∙ of_inside f d (record {
+              | inr n4 ↦ absurd (false≢true (sym out ∙ in_frame_true f d (record {
                 column = inner c.i d.i f.i0 f.width h.column.low h.column.high n1 n2 s.west s.east;
                 row = inner c.j d.j f.j0 f.height h.row.low h.row.high n3 n4 s.south s.north;
               })))
@@ -73,21 +74,21 @@ pub record HasOuter (f : Frame) (c : Cell) : Type 0 where
 beside_row : (f : Frame) (c : Cell) (d : ℤ) → negsuc 0 ≤ℤ d → d ≤ℤ pos 1 → (InFrame f (cell (c.i +ℤ d) c.j) → ⊥) → HasOuter f c
 beside_row f c d l k n = record {
   outside = cell (c.i +ℤ d) c.j;
-  out = not_inside f (cell (c.i +ℤ d) c.j) n;
+  out = in_frame_false f (cell (c.i +ℤ d) c.j) n;
   beside = record { west = omega (arith, ints); east = omega (arith, ints); south = omega (arith, ints); north = omega (arith, ints) };
 }
 
 beside_column : (f : Frame) (c : Cell) (d : ℤ) → negsuc 0 ≤ℤ d → d ≤ℤ pos 1 → (InFrame f (cell c.i (c.j +ℤ d)) → ⊥) → HasOuter f c
 beside_column f c d l k n = record {
   outside = cell c.i (c.j +ℤ d);
-  out = not_inside f (cell c.i (c.j +ℤ d)) n;
+  out = in_frame_false f (cell c.i (c.j +ℤ d)) n;
   beside = record { west = omega (arith, ints); east = omega (arith, ints); south = omega (arith, ints); north = omega (arith, ints) };
 }
 
 -- a border cell has a neighbour outside
 pub outer_of : (f : Frame) (c : Cell) → IsOnBorder f c → HasOuter f c
 outer_of f c h =
-    let q = inside f c h.inside in
+    let q = in_frame_is f c h.inside in
     elim h.edge as (λ _. HasOuter f c) [
       | inl e ↦ beside_row f c (negsuc 0) (omega (arith, ints)) (omega (arith, ints)) (λ k. low_end c.i f.i0 q.column.low k.column.low e)
       | inr r ↦ elim r as (λ _. HasOuter f c) [
@@ -134,7 +135,7 @@ module _ (f : Frame) (taken : Cell → Bool) where
   seed_on works waiting put n s p b at_n k =
       let i = b.inside in
       let works' = set works (place_of f s) 1 in
-      let below = place_below f s (inside f s i) in
+      let below = place_below f s (in_frame_is f s i) in
       let none : number_in f 1 works s ≡ 0 = p.late s i (omega (arith, at_n)) in
       let own_s = written_here f 1 works s 1 i p.len in
       record {
@@ -142,7 +143,7 @@ module _ (f : Frame) (taken : Cell → Bool) where
         each = λ a b_a l k_a. elim (here_or_else f 1 works s 1 i p.len a) as (λ _. number_in f 1 works' a ≡ 1) [
           | inl e ↦ ap (number_in f 1 works') e ∙ own_s
           | inr ne ↦
-              let apart : place_of f a ≢ n = λ e. ne (place_same f a s (inside f a b_a.inside) (inside f s i) (e ∙ sym at_n)) in
+              let apart : place_of f a ≢ n = λ e. ne (place_same f a s (in_frame_is f a b_a.inside) (in_frame_is f s i) (e ∙ sym at_n)) in
               still f 1 works s 1 i p.len a (p.each a b_a (omega arith) k_a)
         ];
         own = λ a i_a e. elim (split f 1 works s 1 i p.len a e) as (λ _. (taken a ≡ true) × IsOnBorder f a × Contains (waiting ++ s ∷ []) a) [
@@ -172,7 +173,7 @@ module _ (f : Frame) (taken : Cell → Bool) where
     len = p.len;
     each = λ a b l k. elim (cases_eq (place_of f a) n) as (λ _. number_in f 1 works a ≡ 1) [
       | inl e ↦
-          let one : a ≡ s = place_same f a s (inside f a b.inside) s_in (e ∙ sym at_n) in
+          let one : a ≡ s = place_same f a s (in_frame_is f a b.inside) s_in (e ∙ sym at_n) in
           let free : number_in f 1 works a ≡ 0 = p.late a b.inside (omega (arith, e)) in
           absurd (none (subst (IsOnBorder f) one b) (subst (IsOpen f taken 1 works) one (record { inside = b.inside; taken_there = k; free = free })))
       | inr ne ↦ p.each a b (omega arith) k
@@ -186,7 +187,7 @@ module _ (f : Frame) (taken : Cell → Bool) where
 
   pub all_seeded : (works : List ℕ) (waiting : List Cell) (put n : ℕ) → IsSeeding works waiting put n → n ≡ cells_of f → IsSeeded f taken works waiting put
   all_seeded works waiting put n p e = record {
-    each = λ a b k. let l = place_below f a (inside f a b.inside) in p.each a b (omega (arith, l, e)) k;
+    each = λ a b k. let l = place_below f a (in_frame_is f a b.inside) in p.each a b (omega (arith, l, e)) k;
     own = p.own;
     rest = p.rest;
     count = p.count;
@@ -206,7 +207,7 @@ module _ (f : Frame) (taken : Cell → Bool) where
           by_bool (in_frame f a)
           (λ i. inr (p.own a i e).2)
           (λ o. inl (by_bool (in_frame f b)
-          (λ i. p.each b (border_of f b a (inside f b i) o (beside_sym a b s)) k)
+          (λ i. p.each b (border_of f b a (in_frame_is f b i) o (beside_sym a b s)) k)
           (λ o_b. number_outside f 1 works b o_b)));
     }
 

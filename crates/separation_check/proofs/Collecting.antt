@@ -13,11 +13,11 @@ use Rattle.cell_grid.specs.Grid.{Grid}
 use Rattle.cell_grid.specs.Cells.{in_frame}
 use Rattle.cell_grid.specs.Chains.{IsClasses}
 use Rattle.cell_grid.proofs.PlaceLaws.{place_same, cell_of_place-place_of}
+use Rattle.cell_grid.proofs.CellsLaws.{in_frame_true}
 use Rattle.separation_check.specs.declared.meetings.Meeting.{Meeting}
 use Rattle.separation_check.specs.Unswept.{is_unswept, island_of, class_of}
 use Rattle.separation_check.specs.Meetings.{islands_of, classes_of, IsMet, IsNoted, AreMeetings}
 use Rattle.separation_check.specs.Grouping.{at}
-use Rattle.separation_check.proofs.Planes.{of_inside}
 use Rattle.separation_check.proofs.Tables.{rising_push, islands_len, classes_len}
 
 at_old : (xs : List ℕ) (y a : ℕ) → a < length xs → at (xs ++ y ∷ []) a ≡ at xs a
@@ -41,7 +41,7 @@ module _ (f : Frame) (free : Cell → Bool) (number class : Cell → ℕ) where
   met_here c n h place k s =
       let e : cell_of_place f n ≡ c = ap (cell_of_place f) (sym place) ∙ cell_of_place-place_of f c h in
       record {
-        inside = ap (in_frame f) e ∙ of_inside f c h;
+        inside = ap (in_frame f) e ∙ in_frame_true f c h;
         place_is = ap (place_of f) e ∙ place;
         free_there = ap free e ∙ k;
         some = s;
@@ -236,7 +236,7 @@ pub noted : (g : Grid) (frame : Frame) (ms ms' : List Meeting) (last last' : Lis
     → IsCollecting g.frame (is_unswept g) (island_of g) (class_of g) ms' last' (n + 1)
 noted g frame ms ms' last last' n i k c classes same p h place small island class_is skipped added =
     let h' : InFrame g.frame c = subst (λ (f : Frame). InFrame f c) same h in
-    let inside = of_inside g.frame c h' in
+    let inside = in_frame_true g.frame c h' in
     let swept = get_or g.swept (place_of g.frame c) false in
     let label = at g.labels (place_of g.frame c) in
     let free_is : is_unswept g c ≡ not swept = swept_in g c inside in

@@ -10,14 +10,14 @@ use Rattle.cell_grid.specs.Place.{InFrame, IsBetween, column_of, row_of}
 use Rattle.cell_grid.specs.Cells.{in_frame, IsOnBorder}
 use Rattle.cell_grid.specs.Chains.{Chain, IsLinked}
 use Rattle.cell_grid.specs.Groups.{IsGroup, AreGroups}
+use Rattle.cell_grid.proofs.CellsLaws.{in_frame_is, in_frame_true}
 use Rattle.separation_check.specs.Laws.{AgreeInside, InnerChains, InnerGroups}
-use Rattle.separation_check.proofs.Planes.{inside, of_inside}
 use Rattle.separation_check.proofs.Links.{chain_end}
 
 -- a cell of the frame with a neighbour outside stands on the border
 pub border_of : (f : Frame) (c d : Cell) → InFrame f c → in_frame f d ≡ false → IsBeside c d → IsOnBorder f c
 border_of f c d h out s = record {
-  inside = of_inside f c h;
+  inside = in_frame_true f c h;
   edge =
       elim (cases_eq (column_of f c) 0) as (λ _. Edge) [
         | inl e ↦ inl e
@@ -27,7 +27,7 @@ border_of f c d h out s = record {
             | inl e ↦ inr (inr (inl e))
             | inr south ↦ elim (cases_eq (row_of f c + 1) f.height) as (λ _. Edge) [
               | inl e ↦ inr (inr (inr e))
-              | inr north ↦ absurd (false≢true (sym out ∙ of_inside f d (record {
+              | inr north ↦ absurd (false≢true (sym out ∙ in_frame_true f d (record {
                 column = inner c.i d.i f.i0 f.width h.column west east s.west s.east;
                 row = inner c.j d.j f.j0 f.height h.row south north s.south s.north;
               })))
@@ -49,7 +49,7 @@ module _ (f : Frame) (t u : Cell → Bool) (p : AgreeInside f t u) where
   stays_in a b (suc n) i q =
       let k = stays_in a q.0 n i q.1.0 in
       by_bool (in_frame f b) (λ e. e)
-      (λ out. absurd (false≢true (sym (p.border q.0 (border_of f q.0 b (inside f q.0 k) out q.1.1)) ∙ chain_end (λ c. t c ≡ true) a q.0 n q.1.0)))
+      (λ out. absurd (false≢true (sym (p.border q.0 (border_of f q.0 b (in_frame_is f q.0 k) out q.1.1)) ∙ chain_end (λ c. t c ≡ true) a q.0 n q.1.0)))
 
   carried : (a b : Cell) (n : ℕ) → in_frame f a ≡ true → Chain (λ c. t c ≡ true) a b n → Chain (λ c. u c ≡ true) a b n
   carried a b zero i q = (q.0, sym (p.agree a i) ∙ q.1)

@@ -1,4 +1,3 @@
-pub mod Planes
 pub mod Sweeping
 pub mod Links
 pub mod Pairs

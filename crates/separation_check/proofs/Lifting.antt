@@ -12,12 +12,12 @@ use Rattle.cell_grid.specs.Cells.{in_frame}
 use Rattle.cell_grid.specs.Chains.{IsBefore, IsLinked, IsClasses}
 use Rattle.cell_grid.specs.Groups.{IsGroup, AreGroups}
 use Rattle.cell_grid.proofs.PlaceLaws.{place_below}
+use Rattle.cell_grid.proofs.CellsLaws.{in_frame_is, before}
 use Rattle.separation_check.specs.Unswept.{island_of}
 use Rattle.separation_check.specs.Meetings.{IsMet, IsNoted, AreMeetings}
 use Rattle.separation_check.specs.Grouping.{at, AreSome, Found, IsFound, AreAllFound}
-use Rattle.separation_check.proofs.Planes.{inside}
 use Rattle.separation_check.proofs.Links.{chain_start, chain_end}
-use Rattle.separation_check.proofs.Rows.{before_less, less_before}
+use Rattle.separation_check.proofs.Rows.{before_less}
 use Rattle.separation_check.proofs.Tables.{rise, island_in}
 
 -- an entry of a list, whatever the default
@@ -62,7 +62,7 @@ module _ (f : Frame) (free : Cell → Bool) (number class : Cell → ℕ) (islan
       let ma = met a sa in
       let mb = met b sb in
       let up = rise p.places p.ascending a b less (in_places b sb) in
-      less_before f (home a) (home b) (inside f (home a) ma.inside) (inside f (home b) mb.inside) (omega (arith, up, ma.place_is, mb.place_is))
+      before f (home a) (home b) (in_frame_is f (home a) ma.inside) (in_frame_is f (home b) mb.inside) (omega (arith, up, ma.place_is, mb.place_is))
 
   -- the places of later meetings aren't earlier
   place_rises : (a b : ℕ) → a ≤ b → b < length p.places → at p.places a ≤ at p.places b
@@ -74,7 +74,7 @@ module _ (f : Frame) (free : Cell → Bool) (number class : Cell → ℕ) (islan
 
   module _ (q : IsClasses free class) (all : n ≡ cells_of f) (numbered : (c : Cell) → 0 < number c → in_frame f c ≡ true) where
     noted : (c : Cell) → 0 < number c → free c ≡ true → IsNoted f number class p.places islands classes c
-    noted c s fr = let h = inside f c (numbered c s) in p.whole c h (omega (arith, place_below f c h, all)) fr s
+    noted c s fr = let h = in_frame_is f c (numbered c s) in p.whole c h (omega (arith, place_below f c h, all)) fr s
 
     linked_free : (a c : Cell) → IsLinked free a c → free c ≡ true
     linked_free a c j = chain_end (λ x. free x ≡ true) a c j.steps j.chain
@@ -94,7 +94,7 @@ module _ (f : Frame) (free : Cell → Bool) (number class : Cell → ℕ) (islan
               let r = noted c s (linked_free (home first) c j) in
               let least = g.earliest r.at (island_there c s j) (class_same c s j) in
               let up = place_rises first r.at least r.at_in in
-              let less = before_less f c (home first) (inside f c (numbered c s)) (inside f (home first) m.inside) b in
+              let less = before_less f c (home first) (in_frame_is f c (numbered c s)) (in_frame_is f (home first) m.inside) b in
               omega (arith, up, r.early, less, m.place_is);
           ascending = g.ascending;
           sound = λ u k.

@@ -3,9 +3,7 @@ use Rattle.std.proofs.Common.{◌≡◌, ℕ, zero, suc, ◌+◌, refl, sym, sub
 use Rattle.board_base.specs.declared.places.Cell.{Cell}
 use Rattle.board_base.specs.Lattice.{IsBeside}
 use Rattle.cell_grid.specs.Chains.{Chain, IsLinkedOver}
-
-pub beside_sym : (a b : Cell) → IsBeside a b → IsBeside b a
-beside_sym a b s = record { west = s.east; east = s.west; south = s.north; north = s.south }
+use Rattle.cell_classes.proofs.Links.{beside_sym}
 
 module _ (Free : Cell → Type 0) where
   pub chain_end : (a b : Cell) (n : ℕ) → Chain Free a b n → Free b

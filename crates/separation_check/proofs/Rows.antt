@@ -1,7 +1,6 @@
 -- The order of rows, and the order of places.
 use Rattle.std.proofs.Common.{◌≡◌, inl, inr, ℕ, ◌+◌, ◌*◌, ◌<◌, ℤ, ◌-ℤ◌, ◌<ℤ◌, unsigned_abs, ap, arith}
 use Rattle.std.proofs.lemmas.Nat.{mul-add-lt}
-use Rattle.std.proofs.lemmas.Bool.{cases_lt}
 use Rattle.std.proofs.Math.Nat.{mul_comm}
 use borrow.Author.Differences.{ints}
 use Rattle.board_base.specs.declared.places.Cell.{Cell}
@@ -31,24 +30,3 @@ before_less f c d h k s =
   where
     less : (i i' i0 : ℤ) {w : ℕ} {v : ℕ} → IsBetween i i0 w → IsBetween i' i0 v → i <ℤ i' → unsigned_abs (i -ℤ i0) < unsigned_abs (i' -ℤ i0)
     less i i' i0 p q l = omega (arith, ints)
-
-pub less_before : (f : Frame) (c d : Cell) → InFrame f c → InFrame f d → place_of f c < place_of f d → IsBefore c d
-unfolding place_of
-less_before f c d h k l =
-    elim (cases_lt (row_of f c) (row_of f d)) as (λ _. IsBefore c d) [
-      | inl up ↦ inl (more c.j d.j f.j0 h.row k.row up)
-      | inr past ↦
-          elim (cases_lt (row_of f d) (row_of f c)) as (λ _. IsBefore c d) [
-            | inl down ↦ absurd (let m = row_less f.width (row_of f d) (row_of f c) (column_of f d) (column_of f c) down (column_below f d k) in omega (arith, m, l))
-            | inr level ↦
-                let e : row_of f c ≡ row_of f d = omega (arith, past, level) in
-                let s : row_of f c * f.width ≡ row_of f d * f.width = ap (λ (n : ℕ). n * f.width) e in
-                inr (same c.j d.j f.j0 h.row k.row e, more c.i d.i f.i0 h.column k.column (omega (arith, s, l)))
-          ]
-    ]
-  where
-    more : (i i' i0 : ℤ) {w : ℕ} {v : ℕ} → IsBetween i i0 w → IsBetween i' i0 v → unsigned_abs (i -ℤ i0) < unsigned_abs (i' -ℤ i0) → i <ℤ i'
-    more i i' i0 p q l = omega (arith, ints)
-
-    same : (i i' i0 : ℤ) {w : ℕ} {v : ℕ} → IsBetween i i0 w → IsBetween i' i0 v → unsigned_abs (i -ℤ i0) ≡ unsigned_abs (i' -ℤ i0) → i ≡ i'
-    same i i' i0 p q e = omega (arith, ints)

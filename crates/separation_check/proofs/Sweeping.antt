@@ -13,9 +13,9 @@ use Rattle.cell_grid.specs.Place.{IsFrame, InFrame, place_of, row_of, column_of,
 use Rattle.cell_grid.specs.Grid.{Grid, IsSized}
 use Rattle.cell_grid.specs.Cells.{in_plane, in_frame}
 use Rattle.cell_grid.proofs.PlaceLaws.{place_below, place_same}
+use Rattle.cell_grid.proofs.CellsLaws.{in_frame_true}
 use Rattle.separation_check.specs.declared.sweeps.Sides.{Sides}
 use Rattle.separation_check.specs.Sides.{IsBetween, AreBetween}
-use Rattle.separation_check.proofs.Planes.{of_inside}
 
 column_is : (i i0 : ℤ) (w : ℕ) → i0 ≤ℤ i → i <ℤ (i0 +ℤ pos w) → (i ≡ i0 +ℤ pos (unsigned_abs (i -ℤ i0))) × (unsigned_abs (i -ℤ i0) < w)
 column_is i i0 w l h = (omega (arith, ints), omega (arith, ints))
@@ -146,7 +146,7 @@ pub marked : (start g : Grid) (frame : Frame) (a b : Point) (d : ℤ) (y x : ℕ
 marked start g frame a b d y x p all c h =
     subst (λ (f : Frame). in_plane f g.swept c ≡ (in_plane f start.swept c || near_of (centre_of f.pitch c) a b d)) p.same_frame
     (let k : InFrame frame c = subst (λ (f : Frame). InFrame f c) (sym p.same_frame) h in
-    let i : in_frame frame c ≡ true = of_inside frame c k in
+    let i : in_frame frame c ≡ true = in_frame_true frame c k in
     at_true (in_frame frame c) (get_or g.swept (place_of frame c) false) false i
     ∙ either (get_or g.swept (place_of frame c) false) (get_or start.swept (place_of frame c) false) (near_of (centre_of frame.pitch c) a b d) (p.sound c k) (p.stays c k)
     (λ near. p.done c k (all c k near) near)

@@ -12,15 +12,16 @@ use Rattle.cell_grid.specs.Place.{IsFrame, InFrame, place_of, cells_of}
 use Rattle.cell_grid.specs.Cells.{in_frame}
 use Rattle.cell_grid.specs.Chains.{IsClasses}
 use Rattle.cell_grid.proofs.PlaceLaws.{place_below, place_same}
+use Rattle.cell_grid.proofs.CellsLaws.{in_frame_is, in_frame_true, in_frame_false}
 use Rattle.separation_check.specs.Unswept.{is_unswept, class_of}
 use Rattle.separation_check.specs.Tears.{IsFault, AreWhole}
-use Rattle.separation_check.proofs.Planes.{inside, of_inside, not_inside}
-use Rattle.separation_check.proofs.Links.{beside_sym, linked_step}
+use Rattle.cell_classes.proofs.Links.{beside_sym}
+use Rattle.separation_check.proofs.Links.{linked_step}
 
 -- a test that says whether the cell is in the frame
 pub inside_is : (f : Frame) (c : Cell) (r : Bool) → IsTrue r ↔ InFrame f c → r ≡ in_frame f c
-inside_is f c true e = sym (of_inside f c (e.0 refl))
-inside_is f c false e = sym (not_inside f c (λ h. false≢true (e.1 h)))
+inside_is f c true e = sym (in_frame_true f c (e.0 refl))
+inside_is f c false e = sym (in_frame_false f c (λ h. false≢true (e.1 h)))
 
 at_false : {X : Type 0} (t : Bool) (x y : X) → t ≡ false → cond t x y ≡ y
 at_false true x y e = absurd (false≢true (sym e))
@@ -141,7 +142,7 @@ agreed_ended g frame n p all a b ka kb s =
   where
     one : (c : Cell) → in_frame g.frame c ≡ true → Agrees g c
     one c i =
-        let h : InFrame frame c = subst (λ (f : Frame). InFrame f c) (sym p.same) (inside g.frame c i) in
+        let h : InFrame frame c = subst (λ (f : Frame). InFrame f c) (sym p.same) (in_frame_is g.frame c i) in
         p.each c h (omega (arith, place_below frame c h, all))
 
 -- classes that chains link have no fault
