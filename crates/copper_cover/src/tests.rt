@@ -1,6 +1,6 @@
 // What the definitions come to, worked out by hand.
 ghost use Rattle.std.specs.Prelude.{◌≡◌, ◌<◌, pos, negsuc};
-ghost use Rattle.board_base.specs.Places.{IsNearPlace};
+ghost use Rattle.board_base.specs.Places.{IsNearPlace, IsPlace};
 ghost use Rattle.shape_parts.specs.Parts.{IsPart};
 
 use super::*;
@@ -12,7 +12,8 @@ use std::test::Fail;
 
 // The place `x` micrometres right of the origin.
 fn at(x: i16) -> Point
-    ensures { IsNearPlace result }
+    ensures near { IsNearPlace result }
+    ensures place { IsPlace result }
 {
     Point {
         x: x as i64 * 1000,
@@ -95,20 +96,56 @@ fn kept_in_row(bench: &Workbench, y: u32) -> u8
 }
 
 // A disc round the middle of the cell of the origin, `d` micrometres wide.
+fn round(d: u16) -> Part
+    ensures { IsPart result }
+{
+    Part::Disc {
+        c: Point {
+            x: 100_000,
+            y: 100_000,
+        },
+        d: d as i64 * 1000,
+    }
+}
+
+// A flash of it.
 fn flash(alloc: Global, d: u16, dark: bool) -> Result<Painted, AllocError> {
     let mut shape = Shape::empty(alloc);
-    let c = Point {
-        x: 100_000,
-        y: 100_000,
-    };
-    shape.push(
-        Part::Disc {
-            c,
-            d: d as i64 * 1000,
-        },
-        true,
-    )?;
+    shape.push(round(d), true)?;
     Ok(Painted { shape, dark })
+}
+
+// A dark flash with a hole.
+fn ring(alloc: Global, d: u16, hole: u16) -> Result<Painted, AllocError> {
+    let mut shape = Shape::empty(alloc);
+    shape.push(round(d), true)?;
+    shape.push(round(hole), false)?;
+    Ok(Painted { shape, dark: true })
+}
+
+#[test]
+fn what_lies_under_a_hole_stays(rt: HostRuntime) -> Result<(), Fail> {
+    let frame = Frame {
+        pitch: 200_000,
+        i0: -4,
+        j0: -4,
+        width: 9,
+        height: 9,
+    };
+    let Ok(mut bench) = Workbench::reserve(rt.alloc(), frame) else {
+        panic!(rt; "no memory");
+    };
+    let mut alone = Vec::new(rt.alloc());
+    alone.push(ring(rt.alloc(), 1000, 600)?)?;
+    cover_small(&mut bench, &alone);
+    assert_eq!(rt; kept_in_row(&bench, 4), 6);
+    assert!(rt; !bench.get(Plane::Kept, Cell { i: 0, j: 0 }));
+    let mut objects = Vec::new(rt.alloc());
+    objects.push(flash(rt.alloc(), 1, true)?)?;
+    objects.push(ring(rt.alloc(), 1000, 600)?)?;
+    cover_small(&mut bench, &objects);
+    assert_eq!(rt; kept_in_row(&bench, 4), 7);
+    Ok(())
 }
 
 #[test]

@@ -8,7 +8,7 @@ use Rattle.cell_grid.specs.Grid.{Grid}
 use Rattle.cell_grid.specs.Place.{IsFrame, InFrame, place_of, cells_of}
 use Rattle.cell_grid.specs.Cells.{number_in}
 use Rattle.cell_grid.proofs.PlaceLaws.{place_below}
-use Rattle.cell_classes.proofs.Frames.{of_inside}
+use Rattle.cell_grid.proofs.CellsLaws.{in_frame_true}
 use Rattle.cell_classes.proofs.Numbers.{number_inside}
 
 -- the labels of the places before n are the entries of a list, and nothing else changed
@@ -80,6 +80,6 @@ pub small_there : (start : Grid) (frame : Frame) (g : Grid) (n v limit : ℕ) (c
     → ((a : Cell) → number_in start.frame 0 start.works a ≤ limit) → v ≤ limit
 small_there start frame g n v limit c q c_in e few =
     let c_start = subst (λ (f : Frame). InFrame f c) q.same_frame c_in in
-    let i = number_inside start.frame 0 start.works c (of_inside start.frame c c_start) in
+    let i = number_inside start.frame 0 start.works c (in_frame_true start.frame c c_start) in
     let there : slice_index g.works (place_of g.frame c) ≡ slice_index start.works (place_of start.frame c) = ap (λ (h : Grid). slice_index h.works (place_of h.frame c)) q.rest in
     omega (arith, e, there, i, few c)
