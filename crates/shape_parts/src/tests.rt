@@ -1,6 +1,6 @@
 // What the definitions come to, worked out by hand. Lengths are in micrometres but where a test says otherwise.
 ghost use Rattle.std.specs.Prelude.{pos};
-ghost use Rattle.board_base.specs.Places.{IsNearPlace};
+ghost use Rattle.board_base.specs.Places.{IsNearPlace, IsPlace};
 ghost use Rattle.board_base.specs.Lattice.{centre_of};
 ghost use Rattle.shape_parts.specs.Parts.{IsPart};
 
@@ -13,7 +13,8 @@ use std::test::Fail;
 const PITCH: i64 = 200000;
 
 fn at(x: i16, y: i16) -> Point
-    ensures { IsNearPlace result }
+    ensures near { IsNearPlace result }
+    ensures place { IsPlace result }
 {
     Point {
         x: x as i64 * 1000,
