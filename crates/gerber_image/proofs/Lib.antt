@@ -8,3 +8,4 @@ pub mod CopyLaws
 pub mod ReadyLaws
 pub mod ReachedLaws
 pub mod OneOutcome
+pub mod OutcomeLaws

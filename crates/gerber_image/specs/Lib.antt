@@ -14,3 +14,4 @@ pub mod Gerber
 pub mod Answer
 pub mod Reached
 pub mod Laws
+pub mod Outcome
