@@ -1,6 +1,6 @@
 -- Copies that stay in the range are objects of an image.
-use Rattle.std.proofs.Common.{◌≡◌, refl, ℕ, zero, suc, ◌*◌, ◌<◌, ◌≤◌, ◌+◌, ◌^◌, pos, List, [], ◌∷◌, ◌++◌, length, map, Bool, true, false, not, Option, Some, None, arith, ap, sym, ◌∙◌}
-use Rattle.std.specs.Prelude.{◌&&◌, ◌||◌}
+use Rattle.std.proofs.Common.{◌≡◌, refl, ℕ, zero, suc, ◌*◌, ◌<◌, ◌≤◌, ◌+◌, pos, List, [], ◌∷◌, map, Bool, true, false, not, Option, Some, None, arith}
+use Rattle.std.specs.Prelude.{◌&&◌}
 use Rattle.std.specs.List.{All, list_any, flat_map, range_with_len}
 use Rattle.std.proofs.lemmas.List.{length-map}
 use Rattle.std.proofs.lemmas.List.Elements.{All-append, All-cons, All-nil, All-tail}
@@ -12,7 +12,7 @@ use Rattle.shape_parts.specs.declared.shape.Piece.{Piece}
 use Rattle.shape_parts.specs.declared.shape.Painted.{Painted}
 use Rattle.apertures.specs.Figures.{IsBounded, IsBoundedPiece}
 use Rattle.fixed_num.specs.Angles.{in_range}
-use Rattle.gerber_image.specs.Image.{at, shifted_part, shifted_piece, shifted, copy, copies_of, copies}
+use Rattle.gerber_image.specs.Image.{shifted_part, shifted_piece, shifted, copy, copies}
 use Rattle.gerber_image.specs.Checks.{is_far, part_leaves, piece_leaves, is_outside}
 use Rattle.gerber_image.specs.Objects.{IsObject}
 use Rattle.gerber_image.specs.declared.command.Repeat.{Repeat}

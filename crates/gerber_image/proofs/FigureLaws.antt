@@ -1,25 +1,19 @@
 -- The parts of apertures, and of their shapes at a place.
-use Rattle.std.proofs.Common.{◌≡◌, refl, ℕ, ◌<◌, ◌≤◌, ◌^◌, ◌+◌, ℤ, pos, ◌≤ℤ◌, List, [], ◌∷◌, length, Bool, true, false, Option, Some, None, IfSome, Result, Ok, Err, arith, ap, sym, ◌∙◌}
+use Rattle.std.proofs.Common.{◌≡◌, refl, ℕ, ℤ, pos, ◌≤ℤ◌, List, [], ◌∷◌, Bool, true, false, Result, Ok, Err, arith, sym}
 use Rattle.std.specs.Prelude.{int_lt, int_le, cond, ◌==◌}
 use Rattle.std.specs.List.{before_first}
 use Rattle.std.proofs.lemmas.Int.{ints}
-use Rattle.std.proofs.lemmas.List.Elements.{All-cons, All-nil}
 use Rattle.board_base.specs.Steps.{◌>>=◌}
-use Rattle.board_base.specs.declared.places.Point.{Point}
-use Rattle.board_base.specs.Places.{IsPlace, IsCoordinate}
-use Rattle.shape_parts.specs.Parts.{IsWidth, IsPiece, IsPart}
-use Rattle.shape_parts.specs.declared.shape.Part.{Part}
-use Rattle.shape_parts.specs.declared.shape.Part.TheVariants.{Disc, Capsule}
-use Rattle.shape_parts.specs.declared.shape.Piece.{Piece}
+use Rattle.shape_parts.specs.Parts.{IsWidth}
 use Rattle.fixed_num.specs.Rounding.{round_div_of}
 use Rattle.apertures.specs.declared.aperture.ApertureError.{ApertureError}
 use Rattle.apertures.specs.declared.aperture.ApertureError.TheVariants.{NotBuiltYet}
 use Rattle.apertures.specs.declared.aperture.Unit.{Unit}
 use Rattle.apertures.specs.declared.aperture.Unit.TheVariants.{Mm, Inch}
 use Rattle.apertures.specs.Figures.{Figure}
-use Rattle.apertures.specs.Texts.{is_comma, named, template_of, sizes_behind, length_of, in_metre, width_of}
+use Rattle.apertures.specs.Texts.{is_comma, named, template_of, sizes_behind, length_of, width_of}
 use Rattle.apertures.specs.Defined.{capsule, circle_of, obround_of, figure_of, defined}
-use Rattle.gerber_image.specs.State.{part_width, HasWidth, IsBuilt}
+use Rattle.gerber_image.specs.State.{part_width, IsBuilt}
 
 -- a step that gives something, and what it gave it from
 step : {A B E : Type 0} (r : Result A E) (f : A → Result B E) (y : B) → (r >>= f) ≡ Ok y → (x : A) × (r ≡ Ok x) × (f x ≡ Ok y)

@@ -1,5 +1,5 @@
 -- Shapes at a place.
-use Rattle.std.proofs.Common.{◌≡◌, refl, ℕ, ◌<◌, ◌≤◌, ◌^◌, ◌+◌, ℤ, List, [], ◌∷◌, length, Option, Some, None, IfSome, arith, ap, sym, ◌∙◌}
+use Rattle.std.proofs.Common.{◌≡◌, refl, ℤ, List, [], ◌∷◌, length, Option, Some, None, arith, sym}
 use Rattle.std.specs.List.{All, AllByRecursion}
 use Rattle.std.proofs.lemmas.List.Elements.{All-cons, All-nil}
 use Rattle.board_base.specs.Parts.{◌>>=◌}

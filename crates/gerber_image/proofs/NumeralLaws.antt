@@ -1,5 +1,5 @@
 -- Digits and their numbers.
-use Rattle.std.proofs.Common.{◌≡◌, refl, ℕ, ◌*◌, ◌+◌, ◌<◌, ◌≤◌, ◌^◌, List, Bool, true, false, arith, rules, length}
+use Rattle.std.proofs.Common.{◌≡◌, ℕ, ◌*◌, ◌<◌, ◌≤◌, ◌^◌, List, true, arith, rules}
 use Rattle.std.specs.Char.{is_ascii_digit}
 use Rattle.std.specs.List.{list_all}
 use Rattle.std.specs.Str.Parse.{AllDigits, digits_value}

@@ -1,6 +1,6 @@
 -- Points in the range, and the size of steps.
-use Rattle.std.proofs.Common.{◌≡◌, refl, ℕ, ◌<◌, ◌≤◌, ◌^◌, ◌*◌, ◌+◌, ◌/◌, ℤ, pos, Bool, true, false, not, Option, Some, None, MatchOption, IfSome, arith, ap, sym, ◌∙◌}
-use Rattle.std.specs.Prelude.{◌&&◌, unsigned_abs, cond}
+use Rattle.std.proofs.Common.{◌≡◌, refl, ℕ, ◌<◌, ◌^◌, ℤ, Bool, true, false, not, Option, Some, None, MatchOption, arith, sym}
+use Rattle.std.specs.Prelude.{◌&&◌, cond}
 use Rattle.std.proofs.lemmas.Int.{ints}
 use Rattle.board_base.specs.declared.places.Point.{Point}
 use Rattle.board_base.specs.Places.{IsPlace, IsCoordinate}

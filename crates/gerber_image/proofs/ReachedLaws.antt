@@ -8,7 +8,6 @@ use Rattle.gerber_image.specs.Checks.{Held, held, fault_of, is_end}
 use Rattle.gerber_image.specs.State.{after, nothing}
 use Rattle.gerber_image.specs.Reached.{IsReached}
 use Rattle.gerber_image.specs.declared.command.Said.{Said}
-use Rattle.gerber_image.specs.declared.command.Said.TheVariants as says
 use Rattle.gerber_image.specs.declared.command.GerberKind.{GerberKind}
 use Rattle.gerber_image.specs.declared.command.GerberKind.TheVariants as kinds
 

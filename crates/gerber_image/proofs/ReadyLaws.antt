@@ -1,5 +1,5 @@
 -- What holds before each command holds behind one that is taken.
-use Rattle.std.proofs.Common.{◌≡◌, refl, ℕ, ◌<◌, ◌≤◌, ◌^◌, ◌*◌, ◌++◌, List, [], ◌∷◌, length, Bool, true, false, Option, Some, None, IfSome, Result, Ok, Err, OnOk, arith, ap, sym, ◌∙◌}
+use Rattle.std.proofs.Common.{◌≡◌, refl, ℕ, ◌≤◌, ◌^◌, ◌*◌, ◌++◌, List, [], ◌∷◌, length, Bool, true, false, Option, Some, None, IfSome, Result, Ok, Err, OnOk, arith}
 use Rattle.std.specs.Prelude.{◌==◌, nat_lt, if◌then◌else◌, is_none}
 use Rattle.std.specs.Option.{option_or}
 use Rattle.std.specs.List.{All, list_any}

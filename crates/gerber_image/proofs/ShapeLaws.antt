@@ -1,5 +1,5 @@
 -- Shapes, one part more at a time.
-use Rattle.std.proofs.Common.{◌≡◌, refl, ℕ, ℤ, ◌<◌, ◌+◌, pos, List, [], ◌∷◌, ◌++◌, length, take, map, get_or, slice_index_or, true, false, Bool, ◌||◌, arith, ap, sym, ◌∙◌}
+use Rattle.std.proofs.Common.{◌≡◌, refl, ℕ, ℤ, ◌<◌, ◌+◌, pos, List, [], ◌∷◌, ◌++◌, length, take, map, get_or, true, false, Bool, ◌||◌, arith, ap, sym, ◌∙◌}
 use Rattle.std.specs.List.{All, list_any}
 use Rattle.std.proofs.lemmas.List.{take_more, map-append}
 use Rattle.shape_parts.specs.Parts.{IsPart, HoldsPiece}

@@ -1,5 +1,5 @@
 -- The checks of a command, in their order.
-use Rattle.std.specs.Prelude.{ℕ, ◌+◌, ◌^◌, ◌||◌, ℤ, pos, Bool, true, false, List, [], ◌∷◌, length, Option, Some, None, is_some, is_none, unwrap_or, Result, Ok, Err, ◌==◌, if◌then◌else◌, ◌&&◌, not, nat_lt}
+use Rattle.std.specs.Prelude.{◌+◌, ◌^◌, ◌||◌, ℤ, pos, Bool, true, false, List, [], ◌∷◌, length, Option, Some, None, is_some, is_none, unwrap_or, Result, Err, ◌==◌, if◌then◌else◌, ◌&&◌, not, nat_lt}
 use Rattle.std.specs.Option.{option_or}
 use Rattle.std.specs.List.{list_any}
 use Rattle.board_base.specs.declared.places.Point.{Point}

@@ -1,5 +1,5 @@
 -- Digits of numbers and coordinates.
-use Rattle.std.specs.Prelude.{ℕ, ℤ, List, length, take, drop, Option, Some, None, Bool, not, if◌then◌else◌, ◌&&◌, ◌||◌, ◌==◌, nat_lt, nat_le}
+use Rattle.std.specs.Prelude.{ℕ, List, length, Option, Some, None, Bool, not, if◌then◌else◌, ◌&&◌, ◌||◌, ◌==◌, nat_lt, nat_le}
 use Rattle.std.specs.Char.{is_ascii_digit}
 use Rattle.std.specs.List.{list_all, position_or_len}
 use Rattle.std.specs.Str.Parse.{digits_value}

@@ -18,7 +18,6 @@ use Rattle.gerber_image.specs.Checks.{Held, fault_of, is_outside}
 use Rattle.gerber_image.specs.declared.command.Mode.TheVariants as modes
 use Rattle.gerber_image.specs.declared.command.Repeat.{Repeat}
 use Rattle.gerber_image.specs.declared.command.Said.{Said}
-use Rattle.gerber_image.specs.declared.command.Said.TheVariants as says
 use Rattle.gerber_image.specs.declared.command.GerberKind.{GerberKind}
 use Rattle.gerber_image.specs.declared.command.GerberKind.TheVariants as kinds
 use Rattle.gerber_image.specs.declared.state.State.{State}

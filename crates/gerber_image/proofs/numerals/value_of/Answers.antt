@@ -1,5 +1,5 @@
-use Rattle.std.proofs.Common.{arith, sym, ◌∙◌, ◌+◌, length, ◌≤◌}
-use Rattle.fixed_num.proofs.DigitLaws.{digit_in, more_digit, more_room, no_digit}
+use Rattle.std.proofs.Common.{arith, sym, ◌∙◌}
+use Rattle.fixed_num.proofs.DigitLaws.{digit_in, more_digit, more_room}
 use Rattle.gerber_image.proofs.NumeralLaws.{fits, fits_all}
 use Rattle.gerber_image.proofs.numerals.value_of.Goals as goal
 

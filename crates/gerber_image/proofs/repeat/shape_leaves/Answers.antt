@@ -1,4 +1,4 @@
-use Rattle.std.proofs.Common.{arith, rules}
+use Rattle.std.proofs.Common.{arith}
 use Rattle.gerber_image.proofs.ShapeLaws.{part_fits, one_more}
 use Rattle.gerber_image.proofs.repeat.shape_leaves.Goals as goal
 

@@ -1,4 +1,4 @@
-use Rattle.std.proofs.Common.{refl, rules}
+use Rattle.std.proofs.Common.{refl}
 use Rattle.gerber_image.proofs.FlashLaws.{is_object}
 use Rattle.gerber_image.proofs.state.State.flash_at.Goals as goal
 
