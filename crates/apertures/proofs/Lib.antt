@@ -1,2 +1,4 @@
 pub mod TextLaws
 pub mod PlaceLaws
+pub mod SpelledLaws
+pub mod OriginLaws

@@ -1,15 +1,12 @@
 -- Texts and the sizes in them.
-use Rattle.std.proofs.Common.{◌≡◌, refl, ℕ, suc, ◌+◌, ◌<◌, ◌≤◌, ◌^◌, ℤ, pos, negsuc, List, [], ◌∷◌, ◌++◌, Option, Some, None, Bool, true, false, cond, Result, Ok, Err, length, take, drop, arith, ap, sym, ◌∙◌, subst}
-use Rattle.std.specs.Prelude.{nat_lt, unsigned_abs}
-use Rattle.std.specs.List.{All, position, position_or_len, slice_split}
+use Rattle.std.proofs.Common.{◌≡◌, refl, ℕ, ◌+◌, ◌<◌, ◌≤◌, List, [], ◌∷◌, ◌++◌, Some, None, Bool, true, false, cond, Result, Ok, Err, length, take, drop, arith, ap, sym, ◌∙◌, subst}
+use Rattle.std.specs.Prelude.{nat_lt}
+use Rattle.std.specs.List.{position, position_or_len, slice_split}
 use Rattle.std.proofs.lemmas.Grind.{common_steps}
-use Rattle.std.proofs.lemmas.List.{append-nil}
-use Rattle.std.proofs.lemmas.List.Elements.{All-append, All-cons, All-nil}
 use Rattle.std.proofs.lemmas.List.Sums.{fails_before_first}
 use Rattle.std.proofs.lemmas.List.Splits.{slice_split_first, slice_split_none}
-use Rattle.board_base.specs.Steps.{◌>>=◌}
 use Rattle.apertures.specs.declared.aperture.ApertureError.{ApertureError}
-use Rattle.apertures.specs.Texts.{is_times, IsSize, size_of, sizes_of}
+use Rattle.apertures.specs.Texts.{is_times}
 
 -- the place that is found
 pub found_at : {X : Type 0} (p : X → Bool) (xs : List X) (i : ℕ) → position p xs ≡ Some i → (position_or_len p xs ≡ i) × (i < length xs)

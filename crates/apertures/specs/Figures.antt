@@ -1,5 +1,5 @@
 -- Apertures as contracts see them.
-use Rattle.std.specs.Prelude.{ℤ, pos, List, Option}
+use Rattle.std.specs.Prelude.{ℤ, List, Option}
 use Rattle.std.specs.List.{All}
 use Rattle.std.specs.Option.{IfSome}
 use Rattle.board_base.specs.Places.{IsPlace}

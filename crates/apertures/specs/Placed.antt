@@ -1,5 +1,5 @@
 -- Apertures at a place: mirrored, then turned, then shifted.
-use Rattle.std.specs.Prelude.{ℤ, neg_ℤ, ◌+ℤ◌, List, [], ◌∷◌, if◌then◌else◌, ◌==◌, Option, Some, None}
+use Rattle.std.specs.Prelude.{ℤ, neg_ℤ, ◌+ℤ◌, List, [], ◌∷◌, if◌then◌else◌, ◌==◌, Option, Some}
 use Rattle.board_base.specs.Parts.{◌>>=◌}
 use Rattle.board_base.specs.declared.places.Point.{Point}
 use Rattle.fixed_num.specs.Angles.{in_turn, rotated, point_at}

@@ -2,7 +2,7 @@ use Rattle.std.proofs.Common.{sym}
 use Rattle.std.proofs.lemmas.Int.{to_z-of_z}
 use mir.Val.{SFits}
 use mir.Syntax.{w64}
-use Rattle.apertures.specs.Placed.{placed_point, moved}
+use Rattle.apertures.specs.Placed.{placed_point}
 use Rattle.apertures.proofs.PlaceLaws.{step, is_part}
 use Rattle.apertures.proofs.place.shape_at.Goals as goal
 

@@ -1,5 +1,4 @@
-use Rattle.std.proofs.Common.{arith, pos}
-use Rattle.std.specs.Prelude.{unsigned_abs}
+use Rattle.std.proofs.Common.{arith}
 use borrow.Author.Differences.{ints}
 use Rattle.fixed_num.proofs.SizeLaws.{cut_small}
 use Rattle.apertures.proofs.texts.size_of.Goals as goal
