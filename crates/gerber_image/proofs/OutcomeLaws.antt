@@ -1,10 +1,9 @@
 -- Bytes stand for their outcome.
-use Rattle.std.proofs.Common.{◌≡◌, refl, ℕ, zero, suc, ◌+◌, ◌<◌, ◌≤◌, Bool, true, false, List, [], ◌∷◌, length, Option, Some, None, Result, Ok, Err, IfOk, IfErr, inl, inr, arith, ap, sym, ◌∙◌}
+use Rattle.std.proofs.Common.{◌≡◌, refl, ℕ, zero, suc, ◌+◌, ◌<◌, ◌≤◌, false, List, [], ◌∷◌, length, Option, Some, None, Result, Ok, Err, IfOk, IfErr, inl, inr, arith, ap, ◌∙◌}
 use Rattle.gerber_lexer.specs.declared.lexer.Command.{Command}
-use Rattle.gerber_lexer.specs.Cut.{next_of}
 use Rattle.gerber_lexer.proofs.TileLaws.{commands_within}
-use Rattle.gerber_image.specs.Gerber.{Read, Outcome, BeginsWith, all_said, next_behind, said_by, found, told, outcome_behind, StandsFor}
-use Rattle.gerber_image.specs.Outcome.{read_in, with_read, outcome_within, outcome_of, SomeOutcome, AnswersOutcome}
+use Rattle.gerber_image.specs.Gerber.{Read, BeginsWith, all_said, next_behind, said_by, found, told, outcome_behind, StandsFor}
+use Rattle.gerber_image.specs.Outcome.{read_in, outcome_within, outcome_of, SomeOutcome, AnswersOutcome}
 use Rattle.gerber_image.specs.declared.command.Said.{Said}
 use Rattle.gerber_image.specs.declared.command.GerberError.{GerberError}
 use Rattle.gerber_image.specs.Answer.{Refuses}

@@ -139,12 +139,18 @@ fn commands_that_are_refused(rt: HostRuntime) {
             24,
         ),
         (b"I1D02*", GerberKind::NoFormat, 0),
+        (b"X1234567890123456789D02*", GerberKind::NoFormat, 0),
         (b"%FSLAX46Y46*%X1D02*", GerberKind::NoUnit, 13),
         (b"%ADD10C,1*%", GerberKind::NoUnit, 1),
         (b"D99999999999*", GerberKind::NoAperture, 0),
         (b"D03*", GerberKind::NoAperture, 0),
         (b"%MOMM*%%SRX2Y1I1J1*%M02*", GerberKind::OpenRepeat, 20),
         (b"%MOMM*%%ADD10C,1001*%", GerberKind::OutOfRange, 8),
+        (
+            b"%FSLAX66Y66*%%MOMM*%%ADD10C,1*%D10*%SRX2Y1I1J0*%X500000000D03*%SR*%",
+            GerberKind::OutOfRange,
+            63,
+        ),
         (
             b"%MOMM*%%ADD10C,1*%D10*%SRX1000Y1000I0J0*%D03*D03*%SR*%",
             GerberKind::TooManyObjects,
