@@ -4,7 +4,6 @@ use Rattle.gerber_image.specs.InForce.{last_set, sets_format, sets_unit, sets_da
 use Rattle.gerber_image.specs.Checks.{held}
 use Rattle.gerber_image.specs.State.{after}
 use Rattle.gerber_image.specs.Gerber.{Outcome, StandsFor}
-use Rattle.gerber_image.specs.Computed.{outcome_of}
 use Rattle.gerber_image.specs.declared.command.Said.{Said}
 
 -- none of these commands, the nearest first, sets the thing; behind them stand those of `past`
@@ -38,11 +37,3 @@ KeepsPace = (past : List Said) (said : Said) → after (held past) said ≡ held
 -- bytes stand for one thing at most
 abbrev pub OneOutcome : Type 0
 OneOutcome = (bytes : List ℕ) (a b : Outcome) → StandsFor bytes a → StandsFor bytes b → a ≡ b
-
--- bytes stand for the outcome that is computed command by command
-abbrev pub EachHasOutcome : Type 0
-EachHasOutcome = (bytes : List ℕ) → StandsFor bytes (outcome_of bytes)
-
--- and for no other
-abbrev pub OnlyOutcome : Type 0
-OnlyOutcome = (bytes : List ℕ) (outcome : Outcome) → StandsFor bytes outcome → outcome ≡ outcome_of bytes

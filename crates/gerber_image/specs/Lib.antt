@@ -11,7 +11,7 @@ pub mod State
 pub mod Copies
 pub mod Fits
 pub mod Gerber
-pub mod Computed
 pub mod Answer
 pub mod Reached
 pub mod Laws
+pub mod Outcome

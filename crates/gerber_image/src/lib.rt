@@ -18,4 +18,4 @@ mod texts;
 mod words;
 
 pub use command::{GerberError, GerberKind};
-pub use reader::{keeps_pace, one_outcome, outcome_law, read_image, stays_set};
+pub use reader::{keeps_pace, one_outcome, read_image, some_outcome, stays_set};

@@ -8,7 +8,8 @@ ghost use Rattle.gerber_image.specs.Objects.{IsObject};
 ghost use Rattle.gerber_image.specs.State.{Steps, IsReady, kept};
 ghost use Rattle.gerber_image.specs.Answer.{Refuses};
 ghost use Rattle.gerber_image.specs.Gerber.{said_of, without_breaks as without_breaks_of, StandsFor};
-ghost use Rattle.gerber_image.specs.Laws.{OneOutcome, EachHasOutcome, OnlyOutcome, EachStaysSet, KeepsPace};
+ghost use Rattle.gerber_image.specs.Outcome.{AnswersOutcome, SomeOutcome};
+ghost use Rattle.gerber_image.specs.Laws.{OneOutcome, EachStaysSet, KeepsPace};
 
 use crate::command::{GerberError, GerberKind, Said};
 use crate::extended::extended;
@@ -61,14 +62,8 @@ fn said(alloc: Global, text: &[u8], is_extended: bool) -> Result<Option<Said>, A
     }
 }
 
-/// The image of a Gerber file: its objects in their order, dark or clear. Nothing is read behind the
-/// command that ends the file.
-///
-/// # Errors
-///
-/// The first check that fails at the first command where one does, with the command's offset; `NoEnd` at
-/// the number of bytes. `Memory`, where the memory doesn't suffice, may come in place of any.
-pub fn read_image(alloc: Global, bytes: &[u8]) -> Result<Vec<Painted>, GerberError>
+// Reads command after command.
+fn read_commands(alloc: Global, bytes: &[u8]) -> Result<Vec<Painted>, GerberError>
     ensures image { IfOk result (λ v. StandsFor bytes.now (Ok v.items)) }
     ensures refusal { IfErr result (Refuses bytes.now) }
     ensures objects { IfOk result (λ v. All IsObject v.items) }
@@ -101,15 +96,30 @@ pub fn read_image(alloc: Global, bytes: &[u8]) -> Result<Vec<Painted>, GerberErr
     unreachable!()
 }
 
+/// The image of a Gerber file: its objects in their order, dark or clear. Nothing is read behind the
+/// command that ends the file.
+///
+/// # Errors
+///
+/// The first check that fails at the first command where one does, with the command's offset; `NoEnd` at
+/// the number of bytes. `Memory`, where the memory doesn't suffice, may come in place of any.
+pub fn read_image(alloc: Global, bytes: &[u8]) -> Result<Vec<Painted>, GerberError>
+    ensures image { IfOk result (λ v. StandsFor bytes.now (Ok v.items)) }
+    ensures refusal { IfErr result (Refuses bytes.now) }
+    ensures outcome { AnswersOutcome (λ v. v.items) bytes.now result }
+    ensures objects { IfOk result (λ v. All IsObject v.items) }
+{
+    read_commands(alloc, bytes)
+}
+
 /// Bytes stand for one image or one refusal at most, so a reader answers it exactly where there is one.
 pub fn one_outcome()
     ensures { OneOutcome }
 {}
 
-/// Bytes stand for the outcome that is computed command by command, and for no other.
-pub fn outcome_law()
-    ensures each { EachHasOutcome }
-    ensures only { OnlyOutcome }
+/// Bytes stand for their outcome.
+pub fn some_outcome()
+    ensures { SomeOutcome }
 {}
 
 /// What a command has set is in force until another one sets it, for each thing that may be in force.

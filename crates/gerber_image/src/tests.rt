@@ -96,6 +96,14 @@ fn inches_turns_and_kept_values(rt: HostRuntime) {
 }
 
 #[test]
+fn commands_without_effect(rt: HostRuntime) {
+    let bytes =
+        b"%FSLAX46Y46*%%MOMM*%%FSLAX46Y46*%%IPPOS*%%INa*%%LNb*%%OFA0B0*%%MIA0.0B0*%%ASAXBY*%%IR0*%\
+        %SFA1.0B1.00*%%LS1.0*%%T\nO.P,R1*%G71*G04 50%*G4*G90*G75*%ADD0010C,1*%G54D10*G1X+0J-1D3*G01*D02*M02*";
+    paints(&rt, rt.alloc(), bytes, &[disc(0, 0, 1000, true)]);
+}
+
+#[test]
 fn files_that_end_too_early(rt: HostRuntime) {
     let settings = b"%FSLAX46Y46*%%MOMM*%".as_slice();
     refuses(&rt, rt.alloc(), settings, GerberKind::NoEnd, 20);
@@ -108,21 +116,41 @@ fn commands_that_are_refused(rt: HostRuntime) {
     for (bytes, kind, at) in [
         (b"%MOMM*%G70*M02*".as_slice(), GerberKind::Syntax, 7),
         (b"X1Y1*", GerberKind::Syntax, 0),
+        (b"Y1X1D02*", GerberKind::Syntax, 0),
+        (b"G001X1D02*", GerberKind::Syntax, 0),
+        (b"MOMM*", GerberKind::Syntax, 0),
+        (b"%D10*%", GerberKind::Syntax, 1),
+        (b"%LS*%", GerberKind::Syntax, 1),
+        (b"%FSLAX77Y46*%", GerberKind::Syntax, 1),
+        (b"%FSLAX46Y46*%X12345678901D02*", GerberKind::Syntax, 13),
+        (b"%MOMM*%%ADD10C,-1*%", GerberKind::Syntax, 8),
         (b"G36*", GerberKind::NotBuiltYet, 0),
         (b"%AMA*1,1,1,0,0*%", GerberKind::NotBuiltYet, 1),
         (b"G02X1D01*", GerberKind::NotBuiltYet, 0),
+        (b"%LR45*%", GerberKind::NotBuiltYet, 1),
         (b"%AB*%", GerberKind::Unsupported, 1),
+        (b"%LS2*%", GerberKind::Unsupported, 1),
+        (b"%FSTAX46Y46*%", GerberKind::Unsupported, 1),
+        (b"G91*", GerberKind::Unsupported, 0),
+        (b"%ADD10C,1X1X1*%", GerberKind::Unsupported, 1),
         (
             b"%MOMM*%%ADD10O,1X2*%D10*X1D01*",
             GerberKind::Unsupported,
             24,
         ),
         (b"I1D02*", GerberKind::NoFormat, 0),
+        (b"X1234567890123456789D02*", GerberKind::NoFormat, 0),
         (b"%FSLAX46Y46*%X1D02*", GerberKind::NoUnit, 13),
         (b"%ADD10C,1*%", GerberKind::NoUnit, 1),
-        (b"D10*", GerberKind::NoAperture, 0),
+        (b"D99999999999*", GerberKind::NoAperture, 0),
+        (b"D03*", GerberKind::NoAperture, 0),
         (b"%MOMM*%%SRX2Y1I1J1*%M02*", GerberKind::OpenRepeat, 20),
         (b"%MOMM*%%ADD10C,1001*%", GerberKind::OutOfRange, 8),
+        (
+            b"%FSLAX66Y66*%%MOMM*%%ADD10C,1*%D10*%SRX2Y1I1J0*%X500000000D03*%SR*%",
+            GerberKind::OutOfRange,
+            63,
+        ),
         (
             b"%MOMM*%%ADD10C,1*%D10*%SRX1000Y1000I0J0*%D03*D03*%SR*%",
             GerberKind::TooManyObjects,

@@ -1,7 +1,7 @@
 // How bytes are cut into commands.
 ghost use Rattle.std.specs.Prelude.{◌≡◌, ◌<◌, ◌≤◌, ◌+◌, ◌-◌, ℕ, Bool, true, false, length, take, drop, get_or, reverse, MatchOption, MatchResult, None, Some, Ok, Err, Option, Result, ◌==◌, IfSome, IfOk, ◌&&◌, not, ◌^◌};
 ghost use Rattle.std.specs.List.{position};
-ghost use Rattle.gerber_lexer.specs.Tiles.{CommandsTile};
+ghost use Rattle.gerber_lexer.specs.Tiles.{CommandsTile, CommandsWithin};
 ghost use Rattle.gerber_lexer.specs.Cut.{is_break, way_to, breaks_before, breaks_behind, trimmed, ends_in_star, is_macro, first_byte, block_rest, way_to_end, block_command, word_command, command_in, outside_command, percent, IsWithin, found_at, next_of};
 
 /// Where a command stands. Places are offsets of bytes, from 0.
@@ -255,4 +255,9 @@ pub fn next_command(bytes: &[u8], at: usize, inside: bool) -> Result<Option<Comm
 /// Commands tile the bytes: between them stand line breaks and percent signs alone, and each ends at its star.
 pub fn commands_tile()
     ensures { CommandsTile }
+{}
+
+/// Commands stand within the bytes, each behind the one before it.
+pub fn commands_within()
+    ensures { CommandsWithin }
 {}

@@ -7,4 +7,4 @@ mod lexer;
 #[cfg(test)]
 mod tests;
 
-pub use lexer::{Command, LexError, commands_tile, next_command};
+pub use lexer::{Command, LexError, commands_tile, commands_within, next_command};

@@ -15,8 +15,8 @@ use Rattle.rs274_sim.specs.Runs.{Runs, RunsTo}
 use Rattle.rs274_sim.specs.Spelling.{text_of}
 use Rattle.rs274_sim.specs.Text.{StandsFor}
 use Rattle.gerber_image.specs.Gerber.{Outcome, StandsFor as StandsForImage}
-use Rattle.gerber_image.specs.Computed.{outcome_of}
-use Rattle.gerber_image.proofs.OutcomeLaws.{each_has_outcome}
+use Rattle.gerber_image.specs.Outcome.{outcome_of}
+use Rattle.gerber_image.proofs.OutcomeLaws.{some_outcome}
 use Rattle.mill_plan.specs.declared.job.Job.{Job}
 use Rattle.mill_plan.specs.declared.isolation.Isolation.{Isolation}
 use Rattle.mill_plan.specs.Mills.{Mills}
@@ -64,7 +64,7 @@ outcome_accepted role (Err refusal) painted e = absurd (cc)
 outcome_accepted role (Ok found) painted e = cc
 
 image_accepted : (role : Role) (bytes : List ℕ) (painted : List Painted) → image role bytes ≡ Ok painted → StandsForImage bytes (Ok painted)
-image_accepted role bytes painted e = subst (StandsForImage bytes) (outcome_accepted role (outcome_of bytes) painted e) (each_has_outcome bytes)
+image_accepted role bytes painted e = subst (StandsForImage bytes) (outcome_accepted role (outcome_of bytes) painted e) (some_outcome bytes)
 
 -- what was accepted, step by step
 abbrev pub StepsOf : List (List ℕ) → Files → Accepts → Type 0

@@ -8,7 +8,7 @@ use Rattle.shape_parts.specs.declared.shape.Painted.{Painted}
 use Rattle.gerber_image.specs.declared.command.GerberKind.{GerberKind}
 use Rattle.gerber_image.specs.declared.command.GerberKind.TheVariants as kinds
 use Rattle.gerber_image.specs.Gerber.{Outcome}
-use Rattle.gerber_image.specs.Computed.{outcome_of}
+use Rattle.gerber_image.specs.Outcome.{outcome_of}
 use Rattle.mill_plan.specs.declared.job.Job.{Job}
 use Rattle.mill_plan.specs.declared.limits.LimitHit.{LimitHit}
 use Rattle.mill_plan.specs.declared.limits.LimitHit.TheVariants.{Objects}

@@ -1,7 +1,7 @@
 use Rattle.std.proofs.Common.{◌-◌, ◌+◌, length, ◌≤◌}
 use Rattle.gerber_image.specs.State.{kept, IsReady}
 use Rattle.gerber_image.specs.Reached.{IsReached}
-use Rattle.gerber_image.proofs.reader.read_image.Given as goal
+use Rattle.gerber_image.proofs.reader.read_commands.Given as goal
 
 abbrev pub invariant-commands : goal.invariant-commands
 invariant-commands l = record {
