@@ -1,5 +1,5 @@
 -- What commands paint.
-use Rattle.std.specs.Prelude.{ℕ, ◌*◌, ℤ, pos, ◌+ℤ◌, Bool, true, List, [], ◌∷◌, ◌++◌, Option, Some, None, unwrap_or, is_none, if◌then◌else◌, map}
+use Rattle.std.specs.Prelude.{ℕ, ◌*◌, ℤ, pos, ◌+ℤ◌, Bool, List, [], ◌∷◌, ◌++◌, Option, Some, None, unwrap_or, is_none, if◌then◌else◌, map}
 use Rattle.std.specs.Option.{option_or}
 use Rattle.std.specs.List.{flat_map, range_with_len}
 use Rattle.shape_parts.specs.declared.shape.Part.{Part}
