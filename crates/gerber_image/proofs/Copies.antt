@@ -11,7 +11,8 @@ use Rattle.board_base.specs.declared.places.Point.{Point}
 use Rattle.shape_parts.specs.declared.shape.Part.{Part}
 use Rattle.shape_parts.specs.declared.shape.Part.TheVariants.{Disc, Capsule}
 use Rattle.shape_parts.specs.declared.shape.Piece.{Piece}
-use Rattle.gerber_image.specs.Image.{at, shifted_part, shifted_piece, shifted, copy, copies_of}
+use Rattle.apertures.specs.Defined.{at}
+use Rattle.gerber_image.specs.Image.{shifted_part, shifted_piece, shifted, copy, copies_of}
 use Rattle.gerber_image.specs.Checks.{is_far, part_leaves, piece_leaves, is_outside}
 use Rattle.gerber_image.specs.Copies.{AreInside}
 use Rattle.gerber_image.specs.declared.command.Repeat.{Repeat}

@@ -10,7 +10,7 @@ use Rattle.apertures.specs.declared.aperture.Unit.{Unit}
 use Rattle.apertures.specs.declared.aperture.Unit.TheVariants.{Mm, Inch}
 use Rattle.apertures.specs.Texts.{length_of, IsSize}
 use Rattle.gerber_image.specs.InForce.{step_length}
-use Rattle.gerber_image.specs.Image.{at}
+use Rattle.apertures.specs.Defined.{at}
 use Rattle.gerber_image.specs.Checks.{is_far}
 
 in_coordinates : (v : ℤ) → in_range v ≡ true → IsCoordinate v

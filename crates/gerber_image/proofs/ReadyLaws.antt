@@ -12,7 +12,8 @@ use Rattle.apertures.specs.declared.place.Mirror.{Mirror}
 use Rattle.apertures.specs.Figures.{Figure}
 use Rattle.apertures.specs.Defined.{defined}
 use Rattle.gerber_image.specs.InForce.{defined_under, figure_in, step_length, opened}
-use Rattle.gerber_image.specs.Image.{at, figure_of, copies}
+use Rattle.apertures.specs.Defined.{at}
+use Rattle.gerber_image.specs.Image.{figure_of, copies}
 use Rattle.gerber_image.specs.Checks.{is_outside, Held, fault_of, count_fault, first_fault_of}
 use Rattle.gerber_image.specs.Fits.{IsSaid}
 use Rattle.gerber_image.specs.Objects.{IsObject}

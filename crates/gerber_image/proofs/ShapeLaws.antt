@@ -7,7 +7,8 @@ use Rattle.apertures.specs.Figures.{IsBounded, IsBoundedPiece}
 use Rattle.shape_parts.specs.declared.shape.Part.{Part}
 use Rattle.shape_parts.specs.declared.shape.Part.TheVariants.{Disc, Capsule}
 use Rattle.shape_parts.specs.declared.shape.Piece.{Piece}
-use Rattle.gerber_image.specs.Image.{at, shifted_part, shifted_piece}
+use Rattle.apertures.specs.Defined.{at}
+use Rattle.gerber_image.specs.Image.{shifted_part, shifted_piece}
 use Rattle.gerber_image.specs.Checks.{part_leaves, piece_leaves}
 use Rattle.gerber_image.proofs.Copies.{any_more, not_this}
 

@@ -15,7 +15,8 @@ use Rattle.apertures.specs.declared.aperture.Unit.TheVariants as units
 use Rattle.apertures.specs.Figures.{Figure}
 use Rattle.apertures.specs.Placed.{placed}
 use Rattle.gerber_image.specs.InForce.{InForce, in_force, defined_under}
-use Rattle.gerber_image.specs.Image.{at, x_after, y_after, figure_of, copies, block_at, painted_by, painted_after}
+use Rattle.apertures.specs.Defined.{at}
+use Rattle.gerber_image.specs.Image.{x_after, y_after, figure_of, copies, block_at, painted_by, painted_after}
 use Rattle.gerber_image.specs.declared.command.Format.{Format}
 use Rattle.gerber_image.specs.declared.command.Digits.{Digits}
 use Rattle.gerber_image.specs.declared.command.Act.{Act}

@@ -1,13 +1,13 @@
 -- What commands paint.
-use Rattle.std.specs.Prelude.{ℕ, ◌*◌, ℤ, pos, ◌+ℤ◌, Bool, true, List, [], ◌∷◌, ◌++◌, Option, Some, None, unwrap_or, is_none, if◌then◌else◌, map}
+use Rattle.std.specs.Prelude.{ℕ, ◌*◌, ℤ, pos, ◌+ℤ◌, Bool, List, [], ◌∷◌, ◌++◌, Option, Some, None, unwrap_or, is_none, if◌then◌else◌, map}
 use Rattle.std.specs.Option.{option_or}
 use Rattle.std.specs.List.{flat_map, range_with_len}
-use Rattle.board_base.specs.declared.places.Point.{Point}
 use Rattle.shape_parts.specs.declared.shape.Part.{Part}
 use Rattle.shape_parts.specs.declared.shape.Part.TheVariants.{Disc, Capsule}
 use Rattle.shape_parts.specs.declared.shape.Piece.{Piece}
 use Rattle.shape_parts.specs.declared.shape.Painted.{Painted}
 use Rattle.apertures.specs.Figures.{Figure}
+use Rattle.apertures.specs.Defined.{at, solid}
 use Rattle.apertures.specs.Placed.{placed}
 use Rattle.gerber_image.specs.InForce.{InForce, in_force, said_place}
 use Rattle.gerber_image.specs.declared.command.Act.{Act}
@@ -16,10 +16,6 @@ use Rattle.gerber_image.specs.declared.command.Operation.{Operation}
 use Rattle.gerber_image.specs.declared.command.Repeat.{Repeat}
 use Rattle.gerber_image.specs.declared.command.Said.{Said}
 use Rattle.gerber_image.specs.declared.command.Said.TheVariants as says
-
--- a point by its coordinates
-abbrev pub at : ℤ → ℤ → Point
-at x y = record { x = x; y = y }
 
 -- where an operation leads, by what is in force
 abbrev pub x_after : InForce → Operation → ℤ
@@ -36,7 +32,7 @@ figure_of None aperture = None
 
 -- a stroke from the current point, where the aperture makes strokes
 abbrev pub stroked : InForce → ℤ → ℤ → Option ℤ → List Painted
-stroked now x y (Some d) = record { shape = record { part = Capsule (at now.x now.y) (at x y) d; on = true } ∷ []; dark = now.dark } ∷ []
+stroked now x y (Some d) = record { shape = solid (Capsule (at now.x now.y) (at x y) d) ∷ []; dark = now.dark } ∷ []
 stroked now x y None = []
 
 -- the shape of the aperture at a point, mirrored and turned, where it stays in the range

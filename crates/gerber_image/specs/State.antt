@@ -13,7 +13,8 @@ use Rattle.apertures.specs.Figures.{Figure}
 use Rattle.apertures.specs.declared.place.Mirror.TheVariants as mirrors
 use Rattle.gerber_image.specs.Objects.{IsObject}
 use Rattle.gerber_image.specs.InForce.{InForce, sets_format, sets_unit, sets_dark, sets_mirror, sets_angle, sets_mode, sets_selected, sets_act, sets_x, sets_y, sets_aperture, sets_repeat}
-use Rattle.gerber_image.specs.Image.{at, block_after, painted_after, copies}
+use Rattle.apertures.specs.Defined.{at}
+use Rattle.gerber_image.specs.Image.{block_after, painted_after, copies}
 use Rattle.gerber_image.specs.Checks.{Held, fault_of, is_outside}
 use Rattle.gerber_image.specs.declared.command.Mode.TheVariants as modes
 use Rattle.gerber_image.specs.declared.command.Repeat.{Repeat}

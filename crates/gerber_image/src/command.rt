@@ -7,7 +7,9 @@ use std::marker::Model;
 /// How many digits of a coordinate stand before and behind the point.
 #[derive(Clone, Copy, Debug, PartialEq, Eq)]
 pub struct Format {
+    /// From 1 to 6.
     pub whole: u32,
+    /// From 2 to 6.
     pub decimals: u32,
 }
 
@@ -170,6 +172,7 @@ pub enum GerberKind {
 /// Why a Gerber file has no image, and where.
 #[derive(Clone, Copy, Debug, PartialEq, Eq)]
 pub struct GerberError {
+    /// The first check that fails.
     pub kind: GerberKind,
     /// The offset of the first byte of the refused command, from 0; of NoEnd the number of bytes.
     pub at: usize,

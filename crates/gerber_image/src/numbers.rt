@@ -2,7 +2,7 @@
 ghost use Rattle.std.specs.Prelude.{◌≡◌, ◌<◌, ◌≤◌, ◌^◌, ◌*◌, pos, MatchOption, Some, None, ◌&&◌, ◌||◌, unwrap_or, ⊤, true, false};
 ghost use Rattle.apertures.specs.Texts.{IsSize};
 ghost use Rattle.board_base.specs.Places.{IsPlace};
-ghost use Rattle.gerber_image.specs.Image.{at};
+ghost use Rattle.apertures.specs.Defined.{at};
 ghost use Rattle.gerber_image.specs.Checks.{is_far};
 ghost use Rattle.gerber_image.specs.Numbers.{unit_size as unit_size_of, nanometres as nanometres_of};
 ghost use Rattle.gerber_image.specs.InForce.{said_place, step_length as step_length_of};

@@ -145,6 +145,7 @@ impl State {
         }
     }
 
+    // FS
     fn set_format(&mut self, format: Format) -> Result<(), Stop>
         requires { IsReady (kept self.old) }
         ensures { Steps (kept self.old) (Said.Format format) result (kept self.new) }
@@ -156,6 +157,7 @@ impl State {
         Ok(())
     }
 
+    // MO, G70 and G71
     fn set_unit(&mut self, unit: Unit) -> Result<(), Stop>
         requires { IsReady (kept self.old) }
         ensures { Steps (kept self.old) (Said.Unit unit) result (kept self.new) }
@@ -167,6 +169,7 @@ impl State {
         Ok(())
     }
 
+    // LP
     fn set_dark(&mut self, dark: bool) -> Result<(), Stop>
         requires { IsReady (kept self.old) }
         ensures { Steps (kept self.old) (Said.Polarity dark) result (kept self.new) }
@@ -175,6 +178,7 @@ impl State {
         Ok(())
     }
 
+    // LM
     fn set_mirror(&mut self, mirror: Mirror) -> Result<(), Stop>
         requires { IsReady (kept self.old) }
         ensures { Steps (kept self.old) (Said.Mirror mirror) result (kept self.new) }
@@ -183,6 +187,7 @@ impl State {
         Ok(())
     }
 
+    // LR
     fn set_angle(&mut self, angle: u32) -> Result<(), Stop>
         requires { IsReady (kept self.old) }
         ensures { Steps (kept self.old) (Said.Rotation angle) result (kept self.new) }
@@ -191,6 +196,7 @@ impl State {
         Ok(())
     }
 
+    // G01, G02 and G03
     fn set_mode(&mut self, mode: Mode) -> Result<(), Stop>
         requires { IsReady (kept self.old) }
         ensures { Steps (kept self.old) (Said.Mode mode) result (kept self.new) }
@@ -199,7 +205,7 @@ impl State {
         Ok(())
     }
 
-    /// The aperture with a number.
+    // The aperture with a number.
     fn look_up(&self, number: Option<u32>) -> Option<&Aperture>
         ensures { MatchOption result (figure_of number (kept self.now).now.aperture ≡ None)
             (λ a. figure_of number (kept self.now).now.aperture ≡ Some a.now) }
@@ -218,6 +224,7 @@ impl State {
         self.look_up(self.selected)
     }
 
+    // A selection of an aperture.
     fn select(&mut self, number: Option<u32>) -> Result<(), Stop>
         requires { IsReady (kept self.old) }
         ensures { Steps (kept self.old) (Said.Select number) result (kept self.new) }
@@ -248,6 +255,7 @@ impl State {
         }
     }
 
+    // A definition of an aperture.
     fn define(&mut self, alloc: Global, number: u32, template: &Template) -> Result<(), Stop>
         requires { IsReady (kept self.old) }
         ensures { Steps (kept self.old) (Said.Define number template.now) result (kept self.new) }
@@ -281,6 +289,7 @@ impl State {
         Ok(())
     }
 
+    // SR alone.
     fn close(&mut self, alloc: Global) -> Result<(), Stop>
         requires { IsReady (kept self.old) }
         ensures { Steps (kept self.old) Said.Close result (kept self.new) }
@@ -294,6 +303,7 @@ impl State {
         Ok(())
     }
 
+    // SR with counts and steps.
     fn open(
         &mut self,
         alloc: Global,
@@ -315,6 +325,7 @@ impl State {
         Ok(())
     }
 
+    // M02
     fn end(&self) -> Result<(), Stop>
         requires { IsReady (kept self.now) }
         ensures { Steps (kept self.now) Said.End result (kept self.now) }
