@@ -2,7 +2,7 @@
 use Rattle.std.proofs.Common.{◌≡◌, ◌≢◌, ℕ, ◌+◌, ◌<◌, ◌≤◌, ◌==◌, cond, not, Bool, true, false, List, [], ◌∷◌, length, set, get_or, slice_index, count_by, fold, suc, ◌⊎◌, inl, inr, refl, sym, ap, subst, ◌∙◌, arith, get_or-set_same, get_or-set_other}
 use Rattle.std.proofs.lemmas.List.{length-set, get_or_past}
 use Rattle.std.proofs.lemmas.List.Sums.{sum_by-set, count_by-le-length}
-use Rattle.std.proofs.lemmas.Bool.{false≢true, cases_eq, cases_lt, eqb-true, eq-eqb, ne_eqb}
+use Rattle.std.proofs.lemmas.Bool.{false≢true, cases_eq, cases_lt, eq-eqb, ne_eqb}
 use mathlib.Core.Bool.{beq}
 use Rattle.board_base.specs.declared.places.Cell.{Cell}
 use Rattle.cell_grid.specs.declared.frames.Frame.{Frame}
@@ -69,13 +69,13 @@ pub rest_outside : (f : Frame) (plane : List Bool) (c : Cell) → in_frame f c �
 rest_outside f plane c o = ap not (cond_off (in_frame f c) (get_or plane (place_of f c) false) false o)
 
 pub open_at : (on : Bool) (f : Frame) (plane : List Bool) (works : List ℕ) (c : Cell) (r : Bool) (n : ℕ) → InFrame f c → r ≡ get_or plane (place_of f c) false → beq r on ≡ true
-    → n ≡ get_or works (place_of f c) 0 → (n == 0) ≡ true → IsOpen f (is_taken on f plane) (outer_number on) works c
+    → n ≡ get_or works (place_of f c) 0 → n ≡ 0 → IsOpen f (is_taken on f plane) (outer_number on) works c
 open_at on f plane works c r n h read same number none =
     let e = in_frame_true f c h in
     record {
       inside = e;
       taken_there = taken_inside on f plane c e ∙ ap (λ (b : Bool). beq b on) (sym read) ∙ same;
-      free = number_inside f (outer_number on) works c e ∙ sym number ∙ eqb-true n 0 none;
+      free = number_inside f (outer_number on) works c e ∙ sym number ∙ none;
     }
 
 pub plane_same : (start g : Grid) (p : Plane) → plane_of (record start { works = g.works; waiting = g.waiting; put = g.put }) p ≡ plane_of start p

@@ -20,7 +20,7 @@ pub(crate) fn is_open(bench: &Workbench, plane: Plane, on: bool, c: Cell) -> boo
     ensures opened { result ≡ true → IsOpen bench.now.frame (is_taken on bench.now.frame (plane_of bench.now plane)) (outer_number on) bench.now.works c }
     ensures closed { result ≡ false → IsOpen bench.now.frame (is_taken on bench.now.frame (plane_of bench.now plane)) (outer_number on) bench.now.works c → ⊥ }
 {
-    bench.get(plane, c) == on && bench.work(c) == 0
+    bench.work(c) == 0 && bench.get(plane, c) == on
 }
 
 // Gives a cell of the frame a number, and lets it wait.
