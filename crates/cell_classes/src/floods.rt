@@ -61,9 +61,14 @@ pub(crate) fn flood(bench: &mut Workbench, plane: Plane, on: bool, v: u32)
 {
     let frame = bench.frame();
     'take: while let Some(at) = bench.queue_take() {
-        'ways: for way in 0..8 {
-            spread(bench, frame, plane, on, v, at, way);
-        }
+        spread(bench, frame, plane, on, v, at, 0);
+        spread(bench, frame, plane, on, v, at, 1);
+        spread(bench, frame, plane, on, v, at, 2);
+        spread(bench, frame, plane, on, v, at, 3);
+        spread(bench, frame, plane, on, v, at, 4);
+        spread(bench, frame, plane, on, v, at, 5);
+        spread(bench, frame, plane, on, v, at, 6);
+        spread(bench, frame, plane, on, v, at, 7);
     }
 }
 

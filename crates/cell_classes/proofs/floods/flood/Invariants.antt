@@ -1,15 +1,6 @@
-use Rattle.std.proofs.Common.{◌≤◌}
-use Rattle.cell_grid.specs.Place.{InFrame}
 use Rattle.cell_classes.proofs.Flooding.{nowhere}
 use Rattle.cell_classes.proofs.FloodGrids.{IsAtWay, left}
 use Rattle.cell_classes.proofs.floods.flood.Given as goal
-
-abbrev pub invariant-ways : goal.invariant-ways
-invariant-ways l = record {
-  at_way : IsAtWay l.fn.bench l.plane l.on l.v l.bench l.at l.way;
-  at_in : InFrame l.frame l.at;
-  less : left l.fn.bench.frame l.bench ≤ left l.fn.bench.frame l.initial.bench;
-}
 
 abbrev pub invariant-take : goal.invariant-take
 invariant-take l = IsAtWay l.fn.bench l.plane l.on l.v l.bench nowhere 8
