@@ -22,6 +22,7 @@ fn refusal(alloc: Global, width: u16, height: u16) -> Option<GridError> {
 fn grids_that_are_too_large_are_refused(rt: HostRuntime) {
     for (width, height, expected) in [
         (4, 4, None),
+        (8192, 8192, None),
         (
             8192,
             8193,

@@ -11,6 +11,8 @@ const TWO_DISCS: &[u8] =
 const ONE_DISC: &[u8] =
     b"%FSLAX46Y46*%\n%MOMM*%\n%ADD10C,0.000001*%\nD10*\nX100000Y100000D03*\nM02*\n";
 
+const POINT: &[u8] = b"%FSLAX46Y46*%\n%MOMM*%\n%ADD10C,0*%\nD10*\nX100000Y100000D03*\nM02*\n";
+
 // No allowed centre lies between these two.
 const NEAR_DISCS: &[u8] =
     b"%FSLAX46Y46*%\n%MOMM*%\n%ADD10C,0.100000*%\nD10*\nX100000Y100000D03*\nX500000Y100000D03*\nM02*\n";
@@ -139,6 +141,10 @@ fn reports_tell_the_counts_and_the_groups(rt: HostRuntime) -> Result<(), Fail> {
         (
             ONE_DISC,
             "pcbmill report 1\nfront frame 7 7 kept 1 islands 1 centres 16\nend\n",
+        ),
+        (
+            POINT,
+            "pcbmill report 1\nfront frame 0 0 kept 0 islands 0 centres 0\nend\n",
         ),
         (
             NEAR_DISCS,
