@@ -5,3 +5,7 @@ pub mod ValueLaws
 pub mod RoundingLaws
 pub mod TurnLaws
 pub mod SizeLaws
+pub mod VectorLaws
+pub mod ArcLaws
+pub mod QuarterLaws
+pub mod ChainLaws

@@ -1,5 +1,10 @@
--- Quotients to the nearest whole number.
-use Rattle.std.specs.Prelude.{ℕ, suc, ◌+◌, ◌*◌, ◌/◌, ◌<◌, ◌≤◌, ℤ, pos, negsuc, neg_ℤ, ◌≤ℤ◌, unsigned_abs}
+-- Whole roots, and quotients to the nearest whole number.
+use Rattle.std.specs.Prelude.{ℕ, zero, suc, ◌+◌, ◌*◌, ◌/◌, ◌<◌, ◌≤◌, ℤ, pos, negsuc, neg_ℤ, ◌≤ℤ◌, unsigned_abs, nat_le, if◌then◌else◌}
+
+-- the greatest whole number whose square is at most n: one more than that of n - 1 where n is the next square
+unfoldable pub root : ℕ → ℕ
+root zero = 0
+root (suc n) = if nat_le ((root n + 1) * (root n + 1)) (suc n) then root n + 1 else root n
 
 -- the quotient of two sizes to the nearest, half up
 unfoldable pub rounded : ℕ → ℕ → ℕ
