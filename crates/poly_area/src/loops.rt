@@ -1,11 +1,13 @@
 // Areas as lists of closed loops.
-ghost use Rattle.std.specs.Prelude.{◌≡◌, ℤ, ℕ, pos, ◌≤ℤ◌, ◌<◌, ◌+◌, ◌≤◌, [], ◌∷◌, ◌++◌, length, IsNone, IfSome, IfOk, OnOk, OnErr, IsErrOf, ◌↔◌, int_le};
+ghost use Rattle.std.specs.Prelude.{◌≡◌, ℤ, ℕ, pos, ◌≤ℤ◌, ◌<◌, ◌+◌, ◌≤◌, [], ◌∷◌, ◌++◌, length, IsNone, IfSome, IfOk, OnOk, OnErr, IsErrOf, ◌↔◌, int_le, is_none};
 ghost use Rattle.std.specs.List.{All};
 ghost use Rattle.board_base.specs.Places.{IsPlace, IsNearPlace, IsCoordinate};
 ghost use Rattle.poly_area.specs.Area.{edges_of, edge_at, area_holds, area_near, IsToggle};
 ghost use Rattle.poly_area.specs.Mirror.{mirrored_loops};
+ghost use Rattle.poly_area.specs.Moved.{moved_loops};
 
 use crate::edges::{Edge, any_near, is_odd, mirrored_edges, put_loop};
+use crate::moves::{Motion, any_leaves, moved_edges};
 use crate::toggles::toggle;
 use board_base::Point;
 use std::alloc::{AllocError, Global};
@@ -148,5 +150,23 @@ impl Poly {
     {
         let edges = mirrored_edges(alloc, &self.edges)?;
         Ok(Poly { edges })
+    }
+
+    /// The area with all points moved, or `None` where one of them leaves the range. It fails only without
+    /// memory.
+    pub fn moved<M: Motion>(&self, alloc: Global, motion: &M) -> Result<Option<Poly>, AllocError>
+        ensures { IfOk result (λ o. o ≡ moved_loops (M.moves motion.now) self.now) }
+    {
+        match moved_edges(alloc, &self.edges, motion)? {
+            Some(edges) => Ok(Some(Poly { edges })),
+            None => Ok(None),
+        }
+    }
+
+    /// Whether a point of the area leaves the range when it is moved.
+    pub fn leaves<M: Motion>(&self, motion: &M) -> bool
+        ensures { result ≡ is_none (moved_loops (M.moves motion.now) self.now) }
+    {
+        any_leaves(&self.edges, motion)
     }
 }
