@@ -1,5 +1,5 @@
 -- the planes of a table of bytes after one byte is read or written
-use Rattle.std.proofs.Common.{◌≡◌, ◌≢◌, ℕ, ◌<◌, ◌==◌, zero, suc, Bool, false, List, [], ◌∷◌, map, length, replicate, get_or, set, refl, sym, ap, subst, ◌∙◌, arith}
+use Rattle.std.proofs.Common.{◌≡◌, ◌≢◌, ℕ, ◌<◌, ◌==◌, zero, suc, Bool, false, List, [], ◌∷◌, map, length, replicate, get_or, set, Some, refl, sym, ap, subst, ◌∙◌, arith}
 use Rattle.std.proofs.Math.Seq.{map-set_same}
 use Rattle.std.proofs.lemmas.List.{length-map, map-set, get_or-map, get_or_default}
 use Rattle.board_base.specs.declared.places.Cell.{Cell}
@@ -11,6 +11,7 @@ use Rattle.cell_grid.specs.declared.bits.Plane.TheVariants.{Kept, Allowed, Pass,
 use Rattle.cell_grid.specs.declared.tables.Workbench.TheInside.{Inside}
 use Rattle.cell_grid.specs.Grid.{Grid, plane_of, with_plane, IsSized, blank_of}
 use Rattle.cell_grid.specs.PlaneBits.{bits_at, bit_number}
+use Rattle.cell_grid.specs.Rows.{off_rows}
 use Rattle.cell_grid.specs.Planes.{grid_of, IsWhole}
 
 bits_at_read : (b : ℕ) (xs : List ℕ) (k : ℕ) → k < length xs → (bit_at (get_or xs k 0) b == 1) ≡ get_or (bits_at b xs) k false
@@ -133,7 +134,7 @@ bits_at-replicate b n = map-replicate (λ (x : ℕ). bit_at x b == 1) n 0
 
 pub blank : (w : Inside) → w.flags.items ≡ replicate (cells_of w.frame) 0 → w.labels.items ≡ replicate (cells_of w.frame) 0
     → w.clearances.items ≡ replicate (cells_of w.frame) 4294967295 → w.works.items ≡ replicate (cells_of w.frame) 0
-    → w.scratch.items ≡ replicate (scratch_of w.frame) 0 → w.queue ≡ record { waiting = []; put = 0; room = cells_of w.frame } → grid_of w ≡ blank_of w.frame
-blank w f l d k s q =
+    → w.scratch.items ≡ replicate (scratch_of w.frame) 0 → w.queue ≡ record { waiting = []; put = 0; room = cells_of w.frame } → w.rows ≡ Some (off_rows w.frame.width) → grid_of w ≡ blank_of w.frame
+blank w f l d k s q r =
     let n = cells_of w.frame in
-    cc (f, l, d, k, s, q, bits_at-replicate 0 n, bits_at-replicate 1 n, bits_at-replicate 2 n, bits_at-replicate 3 n, bits_at-replicate 4 n)
+    cc (f, l, d, k, s, q, r, bits_at-replicate 0 n, bits_at-replicate 1 n, bits_at-replicate 2 n, bits_at-replicate 3 n, bits_at-replicate 4 n)

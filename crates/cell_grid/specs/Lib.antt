@@ -3,6 +3,7 @@ pub mod Limits
 pub mod Boxes
 pub mod Waiting
 pub mod Stored
+pub mod Rows
 pub mod Grid
 pub mod PlaneBits
 pub mod Planes

@@ -1,5 +1,5 @@
-//! The packed grid of cells: a frame of the lattice, its planes of bits, its tables of numbers and one
-//! queue, over memory that is taken once. The layout of the memory may change: contracts see lists in
+//! The packed grid of cells: a frame of the lattice, its planes of bits, its tables of numbers, one
+//! queue and some rows of bits, over memory that is taken once. The layout of the memory may change: contracts see lists in
 //! the order of rows (specs/Grid). What a call changes, and that nothing else changes, may not.
 #![tactic(auto)]
 
@@ -7,11 +7,13 @@ mod bits;
 mod boxes;
 mod frames;
 mod queues;
+mod rows;
 mod tables;
 
 pub use bits::Plane;
 pub use boxes::frame_of;
 pub use frames::{Frame, GridError, cell_at, is_in_frame};
+pub use rows::RowBits;
 pub use tables::Workbench;
 
 #[cfg(test)]

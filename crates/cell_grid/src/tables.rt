@@ -1,4 +1,5 @@
-// A grid in memory: a byte of plane bits, three numbers and a place in the queue for each cell.
+// A grid in memory: a byte of plane bits, three numbers and a place in the queue for each cell, and rows of
+// bits.
 ghost use Rattle.std.specs.Prelude.{◌≡◌, ◌<◌, ◌+◌, ◌++◌, ◌∷◌, [], ℕ, false, drop, replicate, slice_get, slice_set, slice_index, slice_index_or, IfOk, IfSome, IfErr, IsErrOf, MatchOption, Some, None};
 ghost use Rattle.board_base.specs.declared.places.Cell.{Cell};
 ghost use Rattle.cell_grid.specs.declared.frames.GridError.{GridError};
@@ -9,12 +10,13 @@ ghost use Rattle.cell_grid.specs.Grid.{Grid, plane_of, with_plane, blank_of, IsS
 use crate::bits::{Plane, bit, has_bit, with_bit};
 use crate::frames::{Frame, GridError, cell_of, place, size_fault_of};
 use crate::queues::Queue;
+use crate::rows::{RowBits, blank_rows};
 use board_base::Cell;
 use std::alloc::{AllocError, Global};
 use std::marker::Model;
 
-/// The planes, tables, scratch numbers and queue of one frame. All its memory is taken by `reserve`:
-/// 15 bytes a cell, and 512 bytes for each row and each column.
+/// The planes, tables, scratch numbers, queue and rows of bits of one frame. All its memory is taken by
+/// `reserve`: 15 bytes a cell, 512 bytes for each row, and 516 bytes for each column.
 #[derive(Drop)]
 pub struct Workbench {
     frame: Frame,
@@ -24,6 +26,7 @@ pub struct Workbench {
     works: Vec<u32>,
     scratch: Vec<u64>,
     queue: Queue,
+    rows: Option<RowBits>,
 }
 
 impl Model for Workbench {
@@ -88,6 +91,7 @@ fn blank(alloc: Global, frame: Frame) -> Result<Workbench, AllocError>
         64 * (frame.width as usize + frame.height as usize + 2),
     )?;
     let queue = Queue::reserve(alloc, cells)?;
+    let rows = blank_rows(alloc, frame.width as usize)?;
     Ok(Workbench {
         frame,
         flags,
@@ -96,12 +100,13 @@ fn blank(alloc: Global, frame: Frame) -> Result<Workbench, AllocError>
         works,
         scratch,
         queue,
+        rows: Some(rows),
     })
 }
 
 impl Workbench {
     /// A blank grid over a frame: no cell is in a plane, each number is 0, each clearance is
-    /// `u32::MAX`, and nothing waits. `TooWide` where a side passes 32,768, the width first, then
+    /// `u32::MAX`, nothing waits, and the rows of bits lie in their place, all off. `TooWide` where a side passes 32,768, the width first, then
     /// `TooManyCells` where the cells pass 2^26, then `Memory` where memory is wanting.
     pub fn reserve(alloc: Global, frame: Frame) -> Result<Workbench, GridError>
         requires { IsPlaced frame }
@@ -254,5 +259,20 @@ impl Workbench {
     {
         let place = self.queue.take()?;
         Some(cell_of(self.frame, place))
+    }
+
+    /// The rows of bits, for whoever gives them back; `None` where they were taken and not given back.
+    pub fn take_rows(&mut self) -> Option<RowBits>
+        ensures value { result ≡ self.old.rows }
+        ensures rest { self.new ≡ record self.old { rows = None } }
+    {
+        self.rows.take()
+    }
+
+    /// Puts rows of bits where those of `reserve` lay.
+    pub fn give_rows(&mut self, rows: RowBits)
+        ensures { self.new ≡ record self.old { rows = Some rows } }
+    {
+        self.rows = Some(rows);
     }
 }
