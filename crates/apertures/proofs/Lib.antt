@@ -1,4 +1,4 @@
 pub mod TextLaws
-pub mod PlaceLaws
+pub mod OutlineLaws
 pub mod SpelledLaws
 pub mod OriginLaws

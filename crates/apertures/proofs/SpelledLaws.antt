@@ -1,4 +1,4 @@
--- How texts are cut into a name and sizes.
+-- How texts are cut into a name and values.
 use Rattle.std.proofs.Common.{◌≡◌, refl, ℕ, suc, ◌+◌, ◌<◌, List, [], ◌∷◌, ◌++◌, Err, length, take, drop, arith, ap, ◌∙◌}
 use Rattle.std.specs.List.{All, position_or_len, before_first, after_first, slice_split, join_with_byte}
 use Rattle.std.proofs.lemmas.Grind.{common_steps}
@@ -7,16 +7,16 @@ use Rattle.std.proofs.Math.Seq.{take-append_seam}
 use Rattle.fixed_num.specs.Values.{cut_at, short_of}
 use Rattle.fixed_num.specs.Spelled.{parts_of}
 use Rattle.apertures.specs.declared.aperture.ApertureError.TheVariants.{Syntax}
-use Rattle.apertures.specs.Texts.{is_comma, is_times, named, template_of, size_of, sizes_of, sizes_in, sizes_behind}
-use Rattle.apertures.specs.Spelled.{IsSizeText, IsName, spelled, TextLaw}
+use Rattle.apertures.specs.Texts.{is_comma, is_times, named, template_of, value_of, values_of, values_in, values_behind}
+use Rattle.apertures.specs.Spelled.{IsValueText, IsName, spelled, TextLaw}
 
 name_tail : (b : ℕ) (name : List ℕ) → IsName (b ∷ name) → IsName name
 name_tail b name all = λ k d h. all (suc k) d (omega (arith, h))
 
-texts_tail : (text : List ℕ) (texts : List (List ℕ)) → All IsSizeText (text ∷ texts) → All IsSizeText texts
+texts_tail : (text : List ℕ) (texts : List (List ℕ)) → All IsValueText (text ∷ texts) → All IsValueText texts
 texts_tail text texts all = λ k d h. all (suc k) d (omega (arith, h))
 
-texts_head : (text : List ℕ) (texts : List (List ℕ)) → All IsSizeText (text ∷ texts) → IsSizeText text
+texts_head : (text : List ℕ) (texts : List (List ℕ)) → All IsValueText (text ∷ texts) → IsValueText text
 texts_head text texts all = all 0 [] (omega arith)
 
 -- the comma stands behind the name
@@ -48,7 +48,7 @@ rest_found name rest all =
     ap (λ k. drop (k + 1) (name ++ 44 ∷ rest)) (comma_behind name rest all) ∙ ap (λ k. drop k (name ++ 44 ∷ rest)) next ∙ drop_name name rest 44
 
 -- texts that are joined are cut where they were joined
-split_joined : (texts : List (List ℕ)) → All IsSizeText texts → 0 < length texts → slice_split is_times (join_with_byte 88 texts) ≡ texts
+split_joined : (texts : List (List ℕ)) → All IsValueText texts → 0 < length texts → slice_split is_times (join_with_byte 88 texts) ≡ texts
 split_joined [] all some = absurd (omega (arith, some))
 split_joined (text ∷ []) all some = slice_split_none is_times text (texts_head text [] all)
 split_joined (text ∷ other ∷ texts) all some =
@@ -59,24 +59,24 @@ template_found : (name : List ℕ) (texts : List (List ℕ)) → IsName name →
 unfolding template_of
 template_found name texts all = ap named (name_found name (join_with_byte 88 texts) all)
 
-sizes_found : (name : List ℕ) (texts : List (List ℕ)) → IsName name → All IsSizeText texts → 0 < length texts → sizes_behind (spelled name texts) ≡ sizes_of texts
-unfolding sizes_behind sizes_in
-sizes_found name texts all sizes some =
-    ap (λ bytes. sizes_of (slice_split is_times bytes)) (rest_found name (join_with_byte 88 texts) all) ∙ ap sizes_of (split_joined texts sizes some)
+values_found : (name : List ℕ) (texts : List (List ℕ)) → IsName name → All IsValueText texts → 0 < length texts → values_behind (spelled name texts) ≡ values_of texts
+unfolding values_behind values_in
+values_found name texts all sizes some =
+    ap (λ bytes. values_of (slice_split is_times bytes)) (rest_found name (join_with_byte 88 texts) all) ∙ ap values_of (split_joined texts sizes some)
 
 bare_template_found : (name : List ℕ) → IsName name → template_of name ≡ named name
 unfolding template_of
 bare_template_found name all = ap (λ k. named (take k name)) (no_comma name all) ∙ ap named (take_whole name)
 
--- nothing is no size
-no_size : sizes_of (slice_split is_times []) ≡ Err Syntax
-unfolding size_of cut_at short_of parts_of
-no_size = refl
+-- nothing is no value
+no_value : values_of (slice_split is_times []) ≡ Err Syntax
+unfolding value_of cut_at short_of parts_of
+no_value = refl
 
-no_sizes_found : (name : List ℕ) → IsName name → sizes_behind name ≡ Err Syntax
-unfolding sizes_behind sizes_in
-no_sizes_found name all =
-    ap (λ k. sizes_of (slice_split is_times (drop (k + 1) name))) (no_comma name all) ∙ ap (λ bytes. sizes_of (slice_split is_times bytes)) (drop_whole name) ∙ no_size
+no_values_found : (name : List ℕ) → IsName name → values_behind name ≡ Err Syntax
+unfolding values_behind values_in
+no_values_found name all =
+    ap (λ k. values_of (slice_split is_times (drop (k + 1) name))) (no_comma name all) ∙ ap (λ bytes. values_of (slice_split is_times bytes)) (drop_whole name) ∙ no_value
 
 pub text_law : TextLaw
-text_law = record { template = template_found; sizes = sizes_found; bare_template = bare_template_found; bare_sizes = no_sizes_found }
+text_law = record { template = template_found; values = values_found; bare_template = bare_template_found; bare_values = no_values_found }

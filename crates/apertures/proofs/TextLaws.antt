@@ -1,4 +1,4 @@
--- Texts and the sizes in them.
+-- Texts and the values in them.
 use Rattle.std.proofs.Common.{◌≡◌, refl, ℕ, ◌+◌, ◌<◌, ◌≤◌, List, [], ◌∷◌, ◌++◌, Some, None, Bool, true, false, cond, Result, Ok, Err, length, take, drop, arith, ap, sym, ◌∙◌, subst}
 use Rattle.std.specs.Prelude.{nat_lt}
 use Rattle.std.specs.List.{position, position_or_len, slice_split}
@@ -45,7 +45,7 @@ split_at xs front back i at before behind =
 pub split_none : (xs : List ℕ) → position is_times xs ≡ None → slice_split is_times xs ≡ xs ∷ []
 split_none xs e = slice_split_none is_times xs (λ k d h. fails_before_first is_times xs k d (omega (arith, h, none_found is_times xs e)))
 
--- sizes before others
-abbrev pub before : List ℕ → Result (List ℕ) ApertureError → Result (List ℕ) ApertureError
+-- values before others, and sizes likewise
+abbrev pub before : {X : Type 0} → List X → Result (List X) ApertureError → Result (List X) ApertureError
 before xs (Ok ys) = Ok (xs ++ ys)
 before xs (Err e) = Err e

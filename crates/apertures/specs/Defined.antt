@@ -1,22 +1,19 @@
 -- What the text of an aperture defines.
 use Rattle.std.specs.Prelude.{ℕ, ℤ, pos, neg_ℤ, ◌-ℤ◌, int_lt, List, [], ◌∷◌, true, false, if◌then◌else◌, Some, None, Result, Ok, Err}
 use Rattle.board_base.specs.Steps.{◌>>=◌}
-use Rattle.board_base.specs.declared.places.Point.{Point}
 use Rattle.shape_parts.specs.Boxes.{half_up}
 use Rattle.shape_parts.specs.declared.shape.Part.{Part}
-use Rattle.shape_parts.specs.declared.shape.Part.TheVariants.{Disc, Capsule}
+use Rattle.shape_parts.specs.declared.shape.Part.TheVariants.{Disc, Capsule, Area}
 use Rattle.shape_parts.specs.declared.shape.Piece.{Piece}
 use Rattle.apertures.specs.declared.aperture.ApertureError.{ApertureError}
 use Rattle.apertures.specs.declared.aperture.ApertureError.TheVariants.{Syntax, Unsupported}
 use Rattle.apertures.specs.declared.aperture.Unit.{Unit}
 use Rattle.apertures.specs.declared.texts.Template.{Template}
-use Rattle.apertures.specs.declared.texts.Template.TheVariants.{Circle, Obround}
+use Rattle.apertures.specs.declared.texts.Template.TheVariants.{Circle, Obround, Rectangle, Polygon}
 use Rattle.apertures.specs.Figures.{Figure}
-use Rattle.apertures.specs.Texts.{template_of, sizes_behind, width_of}
-
--- a point by its coordinates
-abbrev pub at : ℤ → ℤ → Point
-at x y = record { x = x; y = y }
+pub use Rattle.apertures.specs.Outlines.{at}
+use Rattle.apertures.specs.Outlines.{corners, vertices}
+use Rattle.apertures.specs.Texts.{template_of, values_behind, not_below, sizes_of, count_of, turn_of, width_of}
 
 -- a disc about the origin
 abbrev pub disc : ℤ → Part
@@ -29,6 +26,14 @@ capsule w h =
     if int_lt h w then Capsule (at (half_up (w -ℤ h)) (pos 0)) (at (neg_ℤ (half_up (w -ℤ h))) (pos 0)) h
     else if int_lt w h then Capsule (at (pos 0) (half_up (h -ℤ w))) (at (pos 0) (neg_ℤ (half_up (h -ℤ w)))) w
     else disc w
+
+-- a rectangle about the origin
+abbrev pub rectangle : ℤ → ℤ → Part
+rectangle w h = Area (corners w h ∷ [])
+
+-- a regular polygon of n vertices about the origin, of which the first stands at the angle `turn`
+abbrev pub polygon : ℤ → ℕ → ℕ → Part
+polygon d n turn = Area (vertices d n turn ∷ [])
 
 -- a part that is on
 abbrev pub solid : Part → Piece
@@ -64,14 +69,63 @@ obround_of unit (width ∷ height ∷ inner ∷ []) = do
 obround_of unit (width ∷ height ∷ inner_width ∷ inner_height ∷ []) = Err Unsupported
 obround_of unit sizes = Err Syntax
 
--- the figure of a template with these sizes
-abbrev pub figure_of : Template → Unit → List ℕ → Result Figure ApertureError
-figure_of Circle unit sizes = circle_of unit sizes
-figure_of Obround unit sizes = obround_of unit sizes
+-- a rectangle of these sizes: its width, its height, and the diameter of its hole
+abbrev pub rectangle_of : Unit → List ℕ → Result Figure ApertureError
+rectangle_of unit (width ∷ height ∷ []) = do
+  w ← width_of unit width
+  h ← width_of unit height
+  Ok (record { pieces = solid (rectangle w h) ∷ []; stroke = None })
+rectangle_of unit (width ∷ height ∷ inner ∷ []) = do
+  w ← width_of unit width
+  h ← width_of unit height
+  e ← width_of unit inner
+  Ok (record { pieces = solid (rectangle w h) ∷ hole e ∷ []; stroke = None })
+rectangle_of unit (width ∷ height ∷ inner_width ∷ inner_height ∷ []) = Err Unsupported
+rectangle_of unit sizes = Err Syntax
+
+-- a polygon with the sizes of its hole, where it has one
+abbrev pub pierced_polygon : Unit → ℕ → ℕ → ℕ → List ℕ → Result Figure ApertureError
+pierced_polygon unit size n turn [] = do
+  d ← width_of unit size
+  Ok (record { pieces = solid (polygon d n turn) ∷ []; stroke = None })
+pierced_polygon unit size n turn (inner ∷ []) = do
+  d ← width_of unit size
+  e ← width_of unit inner
+  Ok (record { pieces = solid (polygon d n turn) ∷ hole e ∷ []; stroke = None })
+pierced_polygon unit size n turn (width ∷ height ∷ []) = Err Unsupported
+pierced_polygon unit size n turn holes = Err Syntax
+
+-- a polygon by the values that stand before those of its hole: its diameter, the number of its vertices and its angle
+abbrev pub polygon_at : Unit → ℤ → ℤ → ℤ → List ℤ → Result Figure ApertureError
+polygon_at unit across count angle holes = do
+  size ← not_below across
+  corners ← not_below count
+  n ← count_of corners
+  inner ← sizes_of holes
+  pierced_polygon unit size n (turn_of angle) inner
+
+-- a polygon of these values; where none is given its angle is 0
+abbrev pub polygon_of : Unit → List ℤ → Result Figure ApertureError
+polygon_of unit (across ∷ count ∷ []) = polygon_at unit across count (pos 0) []
+polygon_of unit (across ∷ count ∷ angle ∷ holes) = polygon_at unit across count angle holes
+polygon_of unit values = Err Syntax
+
+-- the figure of a template with these values; all but the angle of a polygon are sizes
+abbrev pub figure_of : Template → Unit → List ℤ → Result Figure ApertureError
+figure_of Circle unit values = do
+  sizes ← sizes_of values
+  circle_of unit sizes
+figure_of Obround unit values = do
+  sizes ← sizes_of values
+  obround_of unit sizes
+figure_of Rectangle unit values = do
+  sizes ← sizes_of values
+  rectangle_of unit sizes
+figure_of Polygon unit values = polygon_of unit values
 
 -- the aperture that a text defines, or why it defines none
 unfoldable pub defined : Unit → List ℕ → Result Figure ApertureError
 defined unit bytes = do
   template ← template_of bytes
-  sizes ← sizes_behind bytes
-  figure_of template unit sizes
+  values ← values_behind bytes
+  figure_of template unit values

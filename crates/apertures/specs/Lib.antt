@@ -1,4 +1,5 @@
 pub mod Texts
+pub mod Outlines
 pub mod Figures
 pub mod Defined
 pub mod Placed

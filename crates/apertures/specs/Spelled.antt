@@ -1,12 +1,12 @@
--- How texts are cut into a name and sizes.
+-- How texts are cut into a name and values.
 use Rattle.std.specs.Prelude.{◌≡◌, ℕ, ◌<◌, List, ◌∷◌, ◌++◌, false, length, Err}
 use Rattle.std.specs.List.{All, join_with_byte}
 use Rattle.apertures.specs.declared.aperture.ApertureError.TheVariants.{Syntax}
-use Rattle.apertures.specs.Texts.{is_comma, is_times, named, template_of, sizes_of, sizes_behind}
+use Rattle.apertures.specs.Texts.{is_comma, is_times, named, template_of, values_of, values_behind}
 
 -- a text without the letter X
-abbrev pub IsSizeText : List ℕ → Type 0
-IsSizeText text = All (λ b. is_times b ≡ false) text
+abbrev pub IsValueText : List ℕ → Type 0
+IsValueText text = All (λ b. is_times b ≡ false) text
 
 -- a name without a comma
 abbrev pub IsName : List ℕ → Type 0
@@ -16,9 +16,9 @@ IsName name = All (λ b. is_comma b ≡ false) name
 abbrev pub spelled : List ℕ → List (List ℕ) → List ℕ
 spelled name texts = name ++ 44 ∷ join_with_byte 88 texts
 
--- such a text has this name and these sizes, and a name alone has none
+-- such a text has this name and these values, and a name alone has none
 pub record TextLaw : Type 0 where
   pub template : (name : List ℕ) (texts : List (List ℕ)) → IsName name → template_of (spelled name texts) ≡ named name
-  pub sizes : (name : List ℕ) (texts : List (List ℕ)) → IsName name → All IsSizeText texts → 0 < length texts → sizes_behind (spelled name texts) ≡ sizes_of texts
+  pub values : (name : List ℕ) (texts : List (List ℕ)) → IsName name → All IsValueText texts → 0 < length texts → values_behind (spelled name texts) ≡ values_of texts
   pub bare_template : (name : List ℕ) → IsName name → template_of name ≡ named name
-  pub bare_sizes : (name : List ℕ) → IsName name → sizes_behind name ≡ Err Syntax
+  pub bare_values : (name : List ℕ) → IsName name → values_behind name ≡ Err Syntax

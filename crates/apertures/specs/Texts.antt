@@ -1,7 +1,8 @@
--- The texts of apertures: a template, a comma, and sizes with the letter X between them.
-use Rattle.std.specs.Prelude.{ℕ, ◌*◌, ◌<◌, ◌^◌, ℤ, pos, negsuc, int_le, List, [], ◌∷◌, Bool, if◌then◌else◌, ◌==◌, Result, Ok, Err}
+-- The texts of apertures: a template, a comma, and values with the letter X between them.
+use Rattle.std.specs.Prelude.{ℕ, ◌*◌, ◌/◌, ◌%◌, ◌<◌, ◌^◌, ℤ, pos, negsuc, int_le, int_div, unsigned_abs, List, [], ◌∷◌, Bool, if◌then◌else◌, ◌&&◌, ◌==◌, nat_le, Result, Ok, Err}
 use Rattle.std.specs.List.{before_first, after_first, slice_split}
 use Rattle.board_base.specs.Steps.{◌>>=◌}
+use Rattle.fixed_num.specs.Angles.{in_turn}
 use Rattle.fixed_num.specs.Rounding.{round_div_of}
 use Rattle.fixed_num.specs.Values.{cut_at}
 use Rattle.fixed_num.specs.declared.number.NumError.{NumError}
@@ -10,7 +11,7 @@ use Rattle.apertures.specs.declared.aperture.ApertureError.TheVariants.{Syntax, 
 use Rattle.apertures.specs.declared.aperture.Unit.{Unit}
 use Rattle.apertures.specs.declared.aperture.Unit.TheVariants.{Mm, Inch}
 use Rattle.apertures.specs.declared.texts.Template.{Template}
-use Rattle.apertures.specs.declared.texts.Template.TheVariants.{Circle, Obround}
+use Rattle.apertures.specs.declared.texts.Template.TheVariants.{Circle, Obround, Rectangle, Polygon}
 
 -- the comma
 abbrev pub is_comma : ℕ → Bool
@@ -20,45 +21,75 @@ is_comma b = b == 44
 abbrev pub is_times : ℕ → Bool
 is_times b = b == 88
 
--- the template of a name, which has at least one byte: `C` or `O`, and no other one yet
+-- the template of a name, which has at least one byte: `C`, `O`, `R` or `P`, and no other one yet
 abbrev pub named : List ℕ → Result Template ApertureError
 named [] = Err Syntax
-named (b ∷ []) = if b == 67 then Ok Circle else if b == 79 then Ok Obround else Err NotBuiltYet
+named (b ∷ []) =
+    if b == 67 then Ok Circle
+    else if b == 79 then Ok Obround
+    else if b == 82 then Ok Rectangle
+    else if b == 80 then Ok Polygon
+    else Err NotBuiltYet
 named (b ∷ c ∷ bytes) = Err NotBuiltYet
 
 -- the template of a text: its name stands before the first comma
 unfoldable pub template_of : List ℕ → Result Template ApertureError
 template_of bytes = named (before_first is_comma bytes)
 
--- a value that is not below 0
-abbrev pub not_below : Result ℤ NumError → Result ℕ ApertureError
-not_below (Err e) = Err Syntax
-not_below (Ok (negsuc n)) = Err Syntax
-not_below (Ok (pos n)) = Ok n
+-- a number that is read, or no aperture
+abbrev pub a_value : Result ℤ NumError → Result ℤ ApertureError
+a_value (Err e) = Err Syntax
+a_value (Ok v) = Ok v
 
--- the size that a text writes, in 10^-9 of the file's unit: a decimal of at most 18 digits before the point, cut
-unfoldable pub size_of : List ℕ → Result ℕ ApertureError
-size_of text = not_below (cut_at 9 text)
+-- the value that a text writes, in 10^-9: a decimal of at most 18 digits before the point, cut
+unfoldable pub value_of : List ℕ → Result ℤ ApertureError
+value_of text = a_value (cut_at 9 text)
 
 -- a number that a decimal of at most 18 digits before the point may be
+abbrev pub IsValue : ℤ → Type 0
+IsValue v = unsigned_abs v < 10 ^ 30
+
+-- the same of a size
 abbrev pub IsSize : ℕ → Type 0
 IsSize size = size < 10 ^ 30
 
--- the sizes of these texts, where all are sizes
-abbrev pub sizes_of : List (List ℕ) → Result (List ℕ) ApertureError
+-- the values of these texts, where all have one
+abbrev pub values_of : List (List ℕ) → Result (List ℤ) ApertureError
+values_of [] = Ok []
+values_of (text ∷ texts) = do
+  value ← value_of text
+  values ← values_of texts
+  Ok (value ∷ values)
+
+-- the values with the letter X between them
+unfoldable pub values_in : List ℕ → Result (List ℤ) ApertureError
+values_in bytes = values_of (slice_split is_times bytes)
+
+-- the values of a text, which stand behind the first comma
+unfoldable pub values_behind : List ℕ → Result (List ℤ) ApertureError
+values_behind bytes = values_in (after_first is_comma bytes)
+
+-- a size: a value that is not below 0
+abbrev pub not_below : ℤ → Result ℕ ApertureError
+not_below (pos n) = Ok n
+not_below (negsuc n) = Err Syntax
+
+-- these values as sizes, where none is below 0
+abbrev pub sizes_of : List ℤ → Result (List ℕ) ApertureError
 sizes_of [] = Ok []
-sizes_of (text ∷ texts) = do
-  size ← size_of text
-  sizes ← sizes_of texts
+sizes_of (value ∷ values) = do
+  size ← not_below value
+  sizes ← sizes_of values
   Ok (size ∷ sizes)
 
--- the sizes with the letter X between them
-unfoldable pub sizes_in : List ℕ → Result (List ℕ) ApertureError
-sizes_in bytes = sizes_of (slice_split is_times bytes)
+-- a number of vertices in 10^-9: a whole number from 3 to 12
+unfoldable pub count_of : ℕ → Result ℕ ApertureError
+count_of size =
+    if size % 1000000000 == 0 && nat_le 3 (size / 1000000000) && nat_le (size / 1000000000) 12 then Ok (size / 1000000000) else Err Syntax
 
--- the sizes of a text, which stand behind the first comma
-unfoldable pub sizes_behind : List ℕ → Result (List ℕ) ApertureError
-sizes_behind bytes = sizes_in (after_first is_comma bytes)
+-- an angle in 10^-9 of a degree, in millionths: cut, and in the first turn
+unfoldable pub turn_of : ℤ → ℕ
+turn_of value = in_turn (int_div value (pos 1000))
 
 -- a size in 10^-9 of a unit, in whole nanometres: the nearest, half up
 unfoldable pub length_of : Unit → ℕ → ℤ

@@ -3,7 +3,7 @@ ghost use Rattle.std.specs.Prelude.{◌≡◌, IfSome};
 ghost use Rattle.shape_parts.specs.Parts.{IsWidth};
 ghost use Rattle.apertures.specs.declared.aperture.ApertureError.TheVariants.{Memory};
 
-use shape_parts::Piece;
+use shape_parts::Shape;
 use std::alloc::AllocError;
 use std::error::Error;
 use std::fmt;
@@ -58,7 +58,7 @@ impl From<AllocError> for ApertureError {
 /// What a flash paints and what a stroke is drawn with.
 #[derive(Drop)]
 pub struct Aperture {
-    pub(crate) pieces: Vec<Piece>,
+    pub(crate) shape: Shape,
     pub(crate) stroke: Option<i64>,
 }
 
@@ -67,9 +67,9 @@ impl Model for Aperture {
 
     ghost Value = { Figure };
 
-    ghost view = { λ a. record { pieces = a.pieces.items; stroke = a.stroke } };
+    ghost view = { λ a. record { pieces = a.shape; stroke = a.stroke } };
 
-    ghost invariant = { λ a. IsFigure (record { pieces = a.pieces.items; stroke = a.stroke }) };
+    ghost invariant = { λ a. IsFigure (record { pieces = a.shape; stroke = a.stroke }) };
 }
 
 /// The diameter in nanometres of the strokes of a circle without a hole. No other aperture makes strokes.

@@ -1,15 +1,14 @@
 //! Apertures at a place.
 ghost use Rattle.std.specs.Prelude.{◌≡◌, ◌+ℤ◌, ◌⊎◌, ℤ, Some, None, MatchResult, IfSome};
 ghost use Rattle.board_base.specs.Places.{IsPlace, IsCoordinate};
-ghost use Rattle.shape_parts.specs.Parts.{IsPart};
 ghost use Rattle.apertures.specs.declared.aperture.ApertureError.TheVariants.{Memory, OutOfRange};
-ghost use Rattle.apertures.specs.Figures.{IsBounded};
-ghost use Rattle.apertures.specs.Placed.{mirrored as mirrored_of, turned as turned_of, shifted as shifted_of, placed_point as placed_point_of, moved_part, placed};
+ghost use Rattle.apertures.specs.Placed.{mirrored as mirrored_of, turned as turned_of, shifted as shifted_of, placed_point as placed_point_of, placed};
 
 use crate::aperture::{Aperture, ApertureError};
 use board_base::Point;
 use fixed_num::{point_at, rotate};
-use shape_parts::{Part, Shape};
+use poly_area::Motion;
+use shape_parts::Shape;
 use std::alloc::Global;
 
 /// Which coordinates of a shape's points are negated.
@@ -78,22 +77,19 @@ fn placed_point(p: Point, place: Point, mirror: Mirror, angle: i64) -> Option<Po
     shifted(q, place)
 }
 
-// Where a part of a shape at the origin comes to.
-fn placed_part(part: &Part, place: Point, mirror: Mirror, angle: i64) -> Option<Part>
-    requires { IsBounded part.now }
-    ensures value { result ≡ moved_part (placed_point_of place mirror angle) part.now }
-    ensures bounded { IfSome result IsBounded }
-{
-    match part {
-        Part::Disc { c, d } => Some(Part::Disc {
-            c: placed_point(*c, place, mirror, angle)?,
-            d: *d,
-        }),
-        Part::Capsule { a, b, d } => Some(Part::Capsule {
-            a: placed_point(*a, place, mirror, angle)?,
-            b: placed_point(*b, place, mirror, angle)?,
-            d: *d,
-        }),
+// A place on the board, and how a shape lies there.
+#[derive(Drop)]
+struct Placement {
+    place: Point,
+    mirror: Mirror,
+    angle: i64,
+}
+
+impl Motion for Placement {
+    ghost moves = { λ m p. placed_point_of m.place m.mirror m.angle p };
+
+    fn moved(&self, p: Point) -> Option<Point> {
+        placed_point(p, self.place, self.mirror, self.angle)
     }
 }
 
@@ -116,12 +112,13 @@ pub fn shape_at(
     ensures { MatchResult result (λ shape. placed place mirror angle a.now.pieces ≡ Some shape)
         (λ e. (e ≡ Memory) ⊎ ((e ≡ OutOfRange) × (placed place mirror angle a.now.pieces ≡ None))) }
 {
-    let mut shape = Shape::empty(alloc);
-    for piece in &a.pieces {
-        let Some(part) = placed_part(&piece.part, place, mirror, angle) else {
-            return Err(ApertureError::OutOfRange);
-        };
-        shape.push(part, piece.on)?;
+    let motion = Placement {
+        place,
+        mirror,
+        angle,
+    };
+    match a.shape.moved(alloc, &motion)? {
+        Some(shape) => Ok(shape),
+        None => Err(ApertureError::OutOfRange),
     }
-    Ok(shape)
 }

@@ -8,19 +8,34 @@ use std::alloc::{AllocError, Global};
 use std::process::Abort;
 use std::test::Fail;
 
-// A part by whether it is on, its ends and its width.
+// A part by whether it is on, its ends and its width; an edge of an area has the width -1.
 type Seen = (bool, (i64, i64), (i64, i64), i64);
 
-fn seen(alloc: Global, a: &Aperture) -> Result<Vec<Seen>, AllocError> {
+fn seen(alloc: Global, shape: &Shape) -> Result<Vec<Seen>, AllocError> {
     let mut parts = Vec::new(alloc);
-    for piece in &a.pieces {
-        let part = match &piece.part {
-            Part::Disc { c, d } => (piece.on, (c.x, c.y), (c.x, c.y), *d),
-            Part::Capsule { a, b, d } => (piece.on, (a.x, a.y), (b.x, b.y), *d),
-        };
-        parts.push(part)?;
+    for piece in shape.pieces() {
+        match &piece.part {
+            Part::Disc { c, d } => parts.push((piece.on, (c.x, c.y), (c.x, c.y), *d))?,
+            Part::Capsule { a, b, d } => parts.push((piece.on, (a.x, a.y), (b.x, b.y), *d))?,
+            Part::Area { poly } => {
+                for k in 0..poly.edges() {
+                    let (from, to) = poly.edge(k);
+                    parts.push((piece.on, (from.x, from.y), (to.x, to.y), -1))?;
+                }
+            }
+        }
     }
     Ok(parts)
+}
+
+// The edges of an area of one loop through four points.
+const fn four(a: (i64, i64), b: (i64, i64), c: (i64, i64), d: (i64, i64)) -> [Seen; 4] {
+    [
+        (true, a, b, -1),
+        (true, b, c, -1),
+        (true, c, d, -1),
+        (true, d, a, -1),
+    ]
 }
 
 const fn disc(on: bool, d: i64) -> Seen {
@@ -36,7 +51,7 @@ fn defines(
     width: Option<i64>,
 ) -> Result<(), Fail> {
     let a = define(alloc, bytes, unit)?;
-    assert_eq!(rt; seen(alloc, &a)?.as_slice(), parts);
+    assert_eq!(rt; seen(alloc, &a.shape)?.as_slice(), parts);
     assert_eq!(rt; stroke(&a), width);
     Ok(())
 }
@@ -84,6 +99,57 @@ fn obrounds_are_defined(rt: HostRuntime) -> Result<(), Fail> {
 }
 
 #[test]
+fn rectangles_are_defined(rt: HostRuntime) -> Result<(), Fail> {
+    let alloc = rt.alloc();
+    let wide = four(
+        (1_000_000, 500_000),
+        (-1_000_000, 500_000),
+        (-1_000_000, -500_000),
+        (1_000_000, -500_000),
+    );
+    defines(&rt, alloc, b"R,2X1", Unit::Mm, &wide, None)?;
+    // Sides of 3 nm and 5 nm have the halves 2 and 3.
+    let odd = four((2, 3), (-2, 3), (-2, -3), (2, -3));
+    defines(&rt, alloc, b"R,0.000003X0.000005", Unit::Mm, &odd, None)?;
+    let [a, b, c, d] = four(
+        (500_000, 500_000),
+        (-500_000, 500_000),
+        (-500_000, -500_000),
+        (500_000, -500_000),
+    );
+    let pierced = [a, b, c, d, disc(false, 300_000)];
+    defines(&rt, alloc, b"R,1X1X0.3", Unit::Mm, &pierced, None)?;
+    Ok(())
+}
+
+#[test]
+fn polygons_are_defined(rt: HostRuntime) -> Result<(), Fail> {
+    let alloc = rt.alloc();
+    let square = four((500_000, 0), (0, 500_000), (-500_000, 0), (0, -500_000));
+    defines(&rt, alloc, b"P,1X4", Unit::Mm, &square, None)?;
+    defines(&rt, alloc, b"P,1X4X0", Unit::Mm, &square, None)?;
+    // A turn of less than a millionth of a degree is cut.
+    defines(&rt, alloc, b"P,1X4.0X-0.0000009", Unit::Mm, &square, None)?;
+    // 0.5 mm by the cosine of 45 degrees, 0.70710678, are 353,553.39 nm.
+    let turned = four(
+        (353_553, -353_553),
+        (353_553, 353_553),
+        (-353_553, 353_553),
+        (-353_553, -353_553),
+    );
+    defines(&rt, alloc, b"P,1X4X-45", Unit::Mm, &turned, None)?;
+    // 0.5 mm by the sine of 120 degrees, 0.86602540, are 433,012.70 nm.
+    let pierced = [
+        (true, (500_000, 0), (-250_000, 433_013), -1),
+        (true, (-250_000, 433_013), (-250_000, -433_013), -1),
+        (true, (-250_000, -433_013), (500_000, 0), -1),
+        disc(false, 200_000),
+    ];
+    defines(&rt, alloc, b"P,1X3X360X0.2", Unit::Mm, &pierced, None)?;
+    Ok(())
+}
+
+#[test]
 fn others_are_refused(rt: HostRuntime) {
     let alloc = rt.alloc();
     for (bytes, fault) in [
@@ -100,14 +166,30 @@ fn others_are_refused(rt: HostRuntime) {
         (b"C,1234567890123456789", ApertureError::Syntax),
         (b"O,1", ApertureError::Syntax),
         (b"O,1X1X1X1X1", ApertureError::Syntax),
-        (b"R,1X1", ApertureError::NotBuiltYet),
+        (b"R,1", ApertureError::Syntax),
+        (b"R,1X-1", ApertureError::Syntax),
+        (b"P,1", ApertureError::Syntax),
+        (b"P,-1X6", ApertureError::Syntax),
+        (b"P,1X2", ApertureError::Syntax),
+        (b"P,1X13", ApertureError::Syntax),
+        (b"P,1X6.5", ApertureError::Syntax),
+        (b"P,1X-6", ApertureError::Syntax),
+        (b"P,1X2X0X1X1", ApertureError::Syntax),
+        (b"P,1X6X0X1X-1", ApertureError::Syntax),
+        (b"P,1X6X0X1X1X1", ApertureError::Syntax),
+        (b"Q,1", ApertureError::NotBuiltYet),
         (b"RoundRect", ApertureError::NotBuiltYet),
         (b"C,1X1X1", ApertureError::Unsupported),
         (b"C,2000X1X1", ApertureError::Unsupported),
         (b"O,1X1X1X1", ApertureError::Unsupported),
+        (b"R,1X1X1X1", ApertureError::Unsupported),
+        (b"P,1X6X0X1X1", ApertureError::Unsupported),
         (b"C,1000.0000005", ApertureError::OutOfRange),
         (b"C,1X1000.1", ApertureError::OutOfRange),
         (b"O,1X1000.1", ApertureError::OutOfRange),
+        (b"R,1000.1X1", ApertureError::OutOfRange),
+        (b"P,1000.1X6", ApertureError::OutOfRange),
+        (b"P,1X6X-15.5X1000.1", ApertureError::OutOfRange),
     ] {
         let refused = define(alloc, bytes, Unit::Mm).err();
         assert_eq!(rt; refused, Some(fault), "{bytes:?}");
@@ -152,6 +234,30 @@ fn shapes_are_mirrored_and_then_turned(rt: HostRuntime) -> Result<(), Fail> {
         );
         assert_eq!(rt; got, want, "{mirror:?}, turned by {angle}");
     }
+    Ok(())
+}
+
+#[test]
+fn areas_are_turned(rt: HostRuntime) -> Result<(), Fail> {
+    let alloc = rt.alloc();
+    let a = define(alloc, b"P,1X4", Unit::Mm)?;
+    let shape = shape_at(alloc, &a, at(0, 0), Mirror::Keep, 45_000_000)?;
+    let turned = four(
+        (353_553, 353_553),
+        (-353_553, 353_553),
+        (-353_553, -353_553),
+        (353_553, -353_553),
+    );
+    assert_eq!(rt; seen(alloc, &shape)?.as_slice(), turned.as_slice());
+    let far = shape_at(alloc, &a, at(0, 0), Mirror::X, 0)?;
+    let mirrored = four((-500_000, 0), (0, 500_000), (500_000, 0), (0, -500_000));
+    assert_eq!(rt; seen(alloc, &far)?.as_slice(), mirrored.as_slice());
+    let edge = Point {
+        x: 499_500_001,
+        y: 0,
+    };
+    let refused = shape_at(alloc, &a, edge, Mirror::Keep, 0).err();
+    assert_eq!(rt; refused, Some(ApertureError::OutOfRange));
     Ok(())
 }
 

@@ -1,9 +1,9 @@
 //! Reading the texts of apertures.
-ghost use Rattle.std.specs.Prelude.{◌≡◌, ◌<◌, ◌+◌, ◌≤ℤ◌, ◌⊎◌, [], ◌∷◌, ◌++◌, length, take, drop, pos, MatchResult, MatchOption, IfOk, IfSome, OnOk, Ok, Err};
+ghost use Rattle.std.specs.Prelude.{◌≡◌, ◌<◌, ◌≤◌, ◌+◌, ◌≤ℤ◌, ◌⊎◌, [], ◌∷◌, ◌++◌, length, take, drop, pos, MatchResult, MatchOption, IfOk, IfSome, OnOk, Ok, Err};
 ghost use Rattle.std.specs.List.{All, position, before_first, after_first, slice_split};
 ghost use Rattle.shape_parts.specs.Parts.{IsWidth};
 ghost use Rattle.apertures.specs.declared.aperture.ApertureError.TheVariants.{Memory};
-ghost use Rattle.apertures.specs.Texts.{is_comma, is_times, IsSize, named as named_of, template_of as template_in, size_of as size_in, sizes_in as sizes_between, sizes_behind as sizes_of_text, length_of as length_of_size, width_of as width_of_size};
+ghost use Rattle.apertures.specs.Texts.{is_comma, is_times, IsSize, IsValue, named as named_of, template_of as template_in, value_of as value_in, values_in as values_between, values_behind as values_of_text, not_below, sizes_of as sizes_among, count_of as count_in, turn_of as turn_in, length_of as length_of_size, width_of as width_of_size};
 
 use crate::aperture::{ApertureError, Unit};
 use fixed_num::{cut_decimal, round_div};
@@ -16,6 +16,10 @@ pub(crate) enum Template {
     Circle,
     // `O`
     Obround,
+    // `R`
+    Rectangle,
+    // `P`
+    Polygon,
 }
 
 // The template of a name.
@@ -26,6 +30,8 @@ fn named(name: &[u8]) -> Result<Template, ApertureError>
         [] => Err(ApertureError::Syntax),
         [b'C'] => Ok(Template::Circle),
         [b'O'] => Ok(Template::Obround),
+        [b'R'] => Ok(Template::Rectangle),
+        [b'P'] => Ok(Template::Polygon),
         _ => Err(ApertureError::NotBuiltYet),
     }
 }
@@ -65,15 +71,15 @@ pub(crate) fn template_of(bytes: &[u8]) -> Result<Template, ApertureError>
     named(name_of(bytes))
 }
 
-// The size that a text writes, in 10^-9 of the file's unit.
-#[tactic(auto, unfolding(crate::specs::Texts::size_of))]
-fn size_of(text: &[u8]) -> Result<u128, ApertureError>
-    ensures value { MatchResult result (λ size. size_in text.now ≡ Ok size) (λ e. size_in text.now ≡ Err e) }
-    ensures bound { IfOk result IsSize }
+// The value that a text writes, in 10^-9.
+#[tactic(auto, unfolding(crate::specs::Texts::value_of))]
+fn value_of(text: &[u8]) -> Result<i128, ApertureError>
+    ensures value { MatchResult result (λ v. value_in text.now ≡ Ok v) (λ e. value_in text.now ≡ Err e) }
+    ensures bound { IfOk result IsValue }
 {
     match cut_decimal(text, 9) {
-        Ok(value) if value >= 0 => Ok(value as u128),
-        _ => Err(ApertureError::Syntax),
+        Ok(value) => Ok(value),
+        Err(_) => Err(ApertureError::Syntax),
     }
 }
 
@@ -84,11 +90,11 @@ fn times_in(bytes: &[u8]) -> Option<usize>
     bytes.iter().position(|b| *b == b'X')
 }
 
-// Adds a size at the end.
-fn add(sizes: &mut Vec<u128>, size: u128) -> Result<(), AllocError>
-    ensures { OnOk result (sizes.new.items ≡ sizes.old.items ++ size ∷ []) }
+// Adds an item at the end.
+fn add<T: Drop>(items: &mut Vec<T>, item: T) -> Result<(), AllocError>
+    ensures { OnOk result (items.new.items ≡ items.old.items ++ item ∷ []) }
 {
-    sizes.push(size)?;
+    items.push(item)?;
     Ok(())
 }
 
@@ -120,33 +126,85 @@ fn split_once(bytes: &[u8]) -> Option<(&[u8], &[u8])>
     }
 }
 
-// The sizes with the letter X between them.
-#[tactic(auto, unfolding(crate::specs::Texts::sizes_in))]
-fn sizes_in(alloc: Global, bytes: &[u8]) -> Result<Vec<u128>, ApertureError>
-    ensures value { MatchResult result (λ sizes. sizes_between bytes.now ≡ Ok sizes.items)
-        (λ e. (e ≡ Memory) ⊎ (sizes_between bytes.now ≡ Err e)) }
+// The values with the letter X between them.
+#[tactic(auto, unfolding(crate::specs::Texts::values_in))]
+fn values_in(alloc: Global, bytes: &[u8]) -> Result<Vec<i128>, ApertureError>
+    ensures value { MatchResult result (λ values. values_between bytes.now ≡ Ok values.items)
+        (λ e. (e ≡ Memory) ⊎ (values_between bytes.now ≡ Err e)) }
+    ensures bound { IfOk result (λ values. All IsValue values.items) }
+{
+    let mut values = Vec::new(alloc);
+    let mut rest = bytes;
+    'texts: while let Some((text, others)) = split_once(rest) {
+        let value = value_of(text)?;
+        add(&mut values, value)?;
+        rest = others;
+    }
+    let value = value_of(rest)?;
+    add(&mut values, value)?;
+    Ok(values)
+}
+
+// The values of a text.
+#[tactic(auto, unfolding(crate::specs::Texts::values_behind))]
+pub(crate) fn values_behind(alloc: Global, bytes: &[u8]) -> Result<Vec<i128>, ApertureError>
+    ensures value { MatchResult result (λ values. values_of_text bytes.now ≡ Ok values.items)
+        (λ e. (e ≡ Memory) ⊎ (values_of_text bytes.now ≡ Err e)) }
+    ensures bound { IfOk result (λ values. All IsValue values.items) }
+{
+    values_in(alloc, behind_name(bytes))
+}
+
+// A value as a size.
+pub(crate) fn size_of(value: i128) -> Result<u128, ApertureError>
+    requires { IsValue value }
+    ensures value { MatchResult result (λ size. not_below value ≡ Ok size) (λ e. not_below value ≡ Err e) }
+    ensures bound { IfOk result IsSize }
+{
+    if value >= 0 {
+        Ok(value as u128)
+    } else {
+        Err(ApertureError::Syntax)
+    }
+}
+
+// Values as sizes.
+pub(crate) fn sizes_of(alloc: Global, values: &[i128]) -> Result<Vec<u128>, ApertureError>
+    requires { All IsValue values.now }
+    ensures value { MatchResult result (λ sizes. sizes_among values.now ≡ Ok sizes.items)
+        (λ e. (e ≡ Memory) ⊎ (sizes_among values.now ≡ Err e)) }
     ensures bound { IfOk result (λ sizes. All IsSize sizes.items) }
 {
     let mut sizes = Vec::new(alloc);
-    let mut rest = bytes;
-    'texts: while let Some((text, others)) = split_once(rest) {
-        let size = size_of(text)?;
+    'values: for value in values {
+        let size = size_of(*value)?;
         add(&mut sizes, size)?;
-        rest = others;
     }
-    let size = size_of(rest)?;
-    add(&mut sizes, size)?;
     Ok(sizes)
 }
 
-// The sizes of a text.
-#[tactic(auto, unfolding(crate::specs::Texts::sizes_behind))]
-pub(crate) fn sizes_behind(alloc: Global, bytes: &[u8]) -> Result<Vec<u128>, ApertureError>
-    ensures value { MatchResult result (λ sizes. sizes_of_text bytes.now ≡ Ok sizes.items)
-        (λ e. (e ≡ Memory) ⊎ (sizes_of_text bytes.now ≡ Err e)) }
-    ensures bound { IfOk result (λ sizes. All IsSize sizes.items) }
+// A number of vertices, from a size.
+#[tactic(auto, unfolding(crate::specs::Texts::count_of))]
+pub(crate) fn count_of(size: u128) -> Result<u64, ApertureError>
+    ensures value { MatchResult result (λ n. count_in size ≡ Ok n) (λ e. count_in size ≡ Err e) }
+    ensures low { IfOk result (λ n. 3 ≤ n) }
+    ensures high { IfOk result (λ n. n ≤ 12) }
 {
-    sizes_in(alloc, behind_name(bytes))
+    let count = size / 1_000_000_000;
+    if size % 1_000_000_000 == 0 && 3 <= count && count <= 12 {
+        Ok(count as u64)
+    } else {
+        Err(ApertureError::Syntax)
+    }
+}
+
+// An angle in millionths of a degree in the first turn, from one in 10^-9.
+#[tactic(auto, unfolding(crate::specs::Texts::turn_of, fixed_num::specs::Angles::in_turn))]
+pub(crate) fn turn_of(value: i128) -> u64
+    ensures value { result ≡ turn_in value }
+    ensures bound { result < 360000000 }
+{
+    (value / 1_000).rem_euclid(360_000_000) as u64
 }
 
 /// A size in 10^-9 of a unit, in whole nanometres: the nearest, half up.

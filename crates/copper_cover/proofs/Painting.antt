@@ -24,7 +24,9 @@ use Rattle.shape_parts.specs.BoxLaw.{Has, HasSquare}
 use Rattle.shape_parts.specs.Boxes.{shape_box}
 use Rattle.shape_parts.proofs.BoxLaws.{box_law_holds}
 use Rattle.shape_parts.proofs.Standing.{stands_step}
-use Rattle.shape_parts.proofs.PartLaws.{IsReach}
+use Rattle.shape_parts.specs.declared.shape.Part.{Part}
+use Rattle.shape_parts.specs.Parts.{part_touches, part_covers}
+use Rattle.shape_parts.proofs.PartLaws.{IsReach, part_touched, part_covered}
 use Rattle.shape_parts.proofs.CoverLaws.{shape_touched, shape_covered}
 use Rattle.copper_cover.specs.declared.cells.Span.{Span}
 use Rattle.copper_cover.specs.declared.cells.Window.{Window}
@@ -49,6 +51,12 @@ in_reach c h h_in = record {
 
     wide : (h : ℤ) → pos 0 ≤ℤ (h *ℤ h)
     wide h = square_nonneg h
+
+-- what a part covers it touches
+pub covered_part_touched : (c : Point) (h : ℤ) (part : Part) → pos 0 ≤ℤ h → part_covers c h part ≡ true → part_touches c h part ≡ true
+covered_part_touched c h part h_in e =
+    let r = in_reach c h h_in in
+    part_touched c c (pos 0) h part r (part_covered c c (pos 0) h part r e)
 
 -- what a shape covers it touches
 pub covered_touched : (c : Point) (h : ℤ) (pieces : List Piece) → pos 0 ≤ℤ h → shape_covers c h pieces ≡ true → shape_touches c h pieces ≡ true

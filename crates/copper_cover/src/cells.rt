@@ -1,10 +1,11 @@
 // The kept cells of a frame, object by object.
-ghost use Rattle.std.specs.Prelude.{◌≡◌, ℕ, ℤ, pos, ◌+ℤ◌, ◌-ℤ◌, ◌*ℤ◌, ◌≤ℤ◌, ◌<ℤ◌, ◌<◌, ◌≤◌, ◌*◌, ◌^◌, ◌↔◌, unsigned_abs, Bool, true, false};
+ghost use Rattle.std.specs.Prelude.{◌≡◌, ℕ, ℤ, pos, ◌+ℤ◌, ◌-ℤ◌, ◌*ℤ◌, ◌≤ℤ◌, ◌<ℤ◌, ◌<◌, ◌≤◌, ◌*◌, ◌^◌, ◌↔◌, unsigned_abs, true, false};
 ghost use Rattle.board_base.specs.declared.places.Cell.{Cell};
 ghost use Rattle.board_base.specs.Places.{IsNearPlace};
 ghost use Rattle.board_base.specs.Lattice.{IsPitch, centre_of, half_diagonal_of};
 ghost use Rattle.cell_grid.specs.Place.{IsFrame, InFrame};
 ghost use Rattle.cell_grid.specs.Cells.{in_plane};
+ghost use Rattle.cell_grid.specs.Grid.{HasRows};
 ghost use Rattle.shape_parts.specs.Shapes.{shape_touches};
 ghost use Rattle.shape_parts.specs.BoxLaw.{HasSquare};
 ghost use Rattle.copper_cover.specs.Kept.{keeps, keeps_after};
@@ -18,15 +19,15 @@ use shape_parts::Painted;
 // The numbers from `from` on and before `to`.
 #[derive(Clone, Copy)]
 pub(crate) struct Span {
-    from: u32,
-    to: u32,
+    pub(crate) from: u32,
+    pub(crate) to: u32,
 }
 
 // Some columns and rows of a frame, counted from its south-west corner.
 #[derive(Clone, Copy)]
 pub(crate) struct Window {
-    columns: Span,
-    rows: Span,
+    pub(crate) columns: Span,
+    pub(crate) rows: Span,
 }
 
 // How far the limit is past the first middle, or 0.
@@ -104,7 +105,7 @@ fn span_round(low: i64, high: i64, h: i64, first: i64, pitch: i64, count: u32) -
 }
 
 // The columns and rows of the frame whose centres are in the rectangle grown by `h` on each side.
-fn window_round(frame: Frame, bounds: Bounds, h: i64) -> Window
+pub(crate) fn window_round(frame: Frame, bounds: Bounds, h: i64) -> Window
     requires frame { IsFrame frame }
     requires pitch { IsPitch frame.pitch }
     requires h_low { pos 0 <ℤ h }
@@ -123,7 +124,7 @@ fn window_round(frame: Frame, bounds: Bounds, h: i64) -> Window
 }
 
 // Takes all cells out of the plane of kept cells.
-fn clear(bench: &mut Workbench)
+pub(crate) fn clear(bench: &mut Workbench)
     ensures rest { bench.new ≡ record bench.old { kept = (bench.new).kept } }
     ensures kept { (c : Cell) → InFrame (bench.old).frame c → in_plane (bench.old).frame (bench.new).kept c ≡ false }
 {
@@ -183,10 +184,10 @@ fn paint(bench: &mut Workbench, object: &Painted, h: i64)
     }
 }
 
-/// Makes Kept the cells of the frame that the painted objects keep, whatever was kept before. The
-/// centre of each cell of the frame has to lie within 500.1 mm of both axes. The objects are painted in
-/// their order, each over the cells round its own rectangle alone.
-pub fn cover(bench: &mut Workbench, painted: &Vec<Painted>)
+/// Makes Kept the cells of the frame that the painted objects keep, cell by cell: the slow program of the
+/// definition, for what `cover` does by rows.
+pub fn plain_cover(bench: &mut Workbench, painted: &Vec<Painted>)
+    requires rows { HasRows bench.old }
     requires pitch { IsPitch (bench.old).frame.pitch }
     requires centres { (c : Cell) → InFrame (bench.old).frame c → IsNearPlace (centre_of (bench.old).frame.pitch c) }
     ensures rest { bench.new ≡ record bench.old { kept = (bench.new).kept } }

@@ -1,6 +1,7 @@
 //! Which cells of the lattice painted objects keep, one or all of a frame, and the rectangle round what is
 //! dark. One cell is named by its centre and half its diagonal, so that finer lattices may use the same
-//! rule. The words of specs/Kept are cited by every crate that cuts copper; proofs/KeptLaws is for those.
+//! rule. `cover` works by rows of bits (specs/Rows), `plain_cover` cell by cell, under one contract. The
+//! words of specs/Kept are cited by every crate that cuts copper; proofs/KeptLaws is for those.
 #![tactic(auto)]
 
 ghost use Rattle.std.specs.Prelude.{◌≡◌, ℤ, pos, ◌≤ℤ◌, ◌<ℤ◌, Bool, not, ◌&&◌, ◌||◌, Option};
@@ -10,12 +11,17 @@ ghost use Rattle.shape_parts.specs.Cover.{is_kept as is_kept_of};
 ghost use Rattle.copper_cover.specs.Kept.{joined as joined_of, object_box, dark_rectangle as dark_rectangle_of, kept_after as kept_after_of, KeptLaw};
 
 mod cells;
+mod columns;
+mod rows;
+mod segments;
+mod sweeps;
 #[cfg(test)]
 mod tests;
 
 use board_base::{Bounds, Point};
-pub use cells::cover;
+pub use cells::plain_cover;
 use shape_parts::{Painted, hull};
+pub use sweeps::cover;
 
 // What an object makes of a cell: the centre is `c` and half its diagonal `h`.
 pub(crate) fn kept_after(kept: bool, object: &Painted, c: Point, h: i64) -> bool

@@ -1,34 +1,27 @@
 -- Copies of a block.
-use Rattle.std.proofs.Common.{◌≡◌, ℕ, zero, suc, ◌+◌, ◌*◌, ◌-◌, ◌<◌, ◌≤◌, ℤ, pos, ◌+ℤ◌, List, [], ◌∷◌, ◌++◌, length, map, Bool, true, false, not, ◌&&◌, ◌||◌, refl, ap, sym, ◌∙◌, arith, append_assoc, length-append, nat_le, take, get_or}
+use Rattle.std.proofs.Common.{◌≡◌, ℕ, zero, suc, ◌+◌, ◌*◌, ◌-◌, ◌<◌, ◌≤◌, ℤ, pos, ◌+ℤ◌, List, [], ◌∷◌, ◌++◌, length, map, Bool, true, false, not, ◌&&◌, ◌||◌, refl, ap, sym, ◌∙◌, arith, append_assoc, length-append, nat_le, get_or}
 use Rattle.std.specs.List.{list_any, flat_map, range_with_len}
 use Rattle.std.proofs.lemmas.List.Folds.{list_any-append}
-use Rattle.std.proofs.lemmas.List.{length-map, take_more, map-append}
+use Rattle.std.proofs.lemmas.List.{length-map}
 use Rattle.std.proofs.Math.Nat.{mul-le-mul_right}
 use Rattle.std.proofs.lemmas.Grind.{common_steps}
 use Rattle.std.proofs.lemmas.Int.{ints}
+use Rattle.number_laws.proofs.Tests.{by_bool}
 use Rattle.fixed_num.specs.Angles.{in_range}
 use Rattle.board_base.specs.declared.places.Point.{Point}
 use Rattle.shape_parts.specs.declared.shape.Part.{Part}
-use Rattle.shape_parts.specs.declared.shape.Part.TheVariants.{Disc, Capsule}
+use Rattle.shape_parts.specs.declared.shape.Part.TheVariants.{Disc, Capsule, Area}
 use Rattle.shape_parts.specs.declared.shape.Piece.{Piece}
 use Rattle.apertures.specs.Defined.{at}
-use Rattle.gerber_image.specs.Image.{shifted_part, shifted_piece, shifted, copy, copies_of}
+use Rattle.gerber_image.specs.Image.{shifted_point, shifted_part, shifted_piece, shifted, copy, copies_of}
 use Rattle.gerber_image.specs.Checks.{is_far, part_leaves, piece_leaves, is_outside}
 use Rattle.gerber_image.specs.Copies.{AreInside}
 use Rattle.gerber_image.specs.declared.command.Repeat.{Repeat}
 use Rattle.shape_parts.specs.declared.shape.Painted.{Painted}
 
-by_bool : {P : Type 0} (b : Bool) → (b ≡ true → P) → (b ≡ false → P) → P
-by_bool true t f = t refl
-by_bool false t f = f refl
-
 pub or_false : (a b : Bool) → (a || b) ≡ false → (a ≡ false) × (b ≡ false)
 or_false false b e = (refl, e)
 or_false true b e = absurd (grind (arith, e))
-
-or_no : (b : Bool) → (b || false) ≡ b
-or_no true = refl
-or_no false = refl
 
 -- one number more
 pub range_more : {A : Type 0} (f : ℕ → List A) (a n : ℕ) → flat_map f (range_with_len a (n + 1)) ≡ flat_map f (range_with_len a n) ++ f (a + n)
@@ -90,6 +83,15 @@ point_between p m n i j hi hj a b =
     let v = far_false (p.x +ℤ pos m) (p.y +ℤ pos n) b in
     rw (in_between p.x i m hi u.0 v.0, in_between p.y j n hj u.1 v.1) refl
 
+-- what no member passes with two changes it passes with none between them
+any_between : {A B : Type 0} (p : B → Bool) (f g h : A → B) → ((a : A) → p (f a) ≡ false → p (g a) ≡ false → p (h a) ≡ false)
+    → (xs : List A) → list_any p (map f xs) ≡ false → list_any p (map g xs) ≡ false → list_any p (map h xs) ≡ false
+any_between p f g h each [] a b = refl
+any_between p f g h each (x ∷ xs) a b =
+    let u = or_false (p (f x)) (list_any p (map f xs)) a in
+    let v = or_false (p (g x)) (list_any p (map g xs)) b in
+    rw (each x u.0 v.0) (any_between p f g h each xs u.1 v.1)
+
 part_between : (p : Part) (m n i j : ℕ) → i ≤ m → j ≤ n → part_leaves (shifted_part (pos 0) (pos 0) p) ≡ false → part_leaves (shifted_part (pos m) (pos n) p) ≡ false
     → part_leaves (shifted_part (pos i) (pos j) p) ≡ false
 part_between (Disc c d) m n i j hi hj a b = point_between c m n i j hi hj a b
@@ -97,22 +99,24 @@ part_between (Capsule p q d) m n i j hi hj a b =
     let u = or_false (is_far (at (p.x +ℤ pos 0) (p.y +ℤ pos 0))) (is_far (at (q.x +ℤ pos 0) (q.y +ℤ pos 0))) a in
     let v = or_false (is_far (at (p.x +ℤ pos m) (p.y +ℤ pos n))) (is_far (at (q.x +ℤ pos m) (q.y +ℤ pos n))) b in
     rw (point_between p m n i j hi hj u.0 v.0, point_between q m n i j hi hj u.1 v.1) refl
+part_between (Area loops) m n i j hi hj a b =
+    any_between (list_any is_far) (map (shifted_point (pos 0) (pos 0))) (map (shifted_point (pos m) (pos n))) (map (shifted_point (pos i) (pos j)))
+    (any_between is_far (shifted_point (pos 0) (pos 0)) (shifted_point (pos m) (pos n)) (shifted_point (pos i) (pos j)) (λ p u v. point_between p m n i j hi hj u v))
+    loops a b
 
-one_between : (shape : List Piece) (m n i j : ℕ) → i ≤ m → j ≤ n → list_any piece_leaves (map (shifted_piece (pos 0) (pos 0)) shape) ≡ false → list_any piece_leaves (map (shifted_piece (pos m) (pos n)) shape) ≡ false
-    → list_any piece_leaves (map (shifted_piece (pos i) (pos j)) shape) ≡ false
-one_between [] m n i j hi hj a b = refl
-one_between (p ∷ shape) m n i j hi hj a b =
-    let u = or_false (piece_leaves (shifted_piece (pos 0) (pos 0) p)) (list_any piece_leaves (map (shifted_piece (pos 0) (pos 0)) shape)) a in
-    let v = or_false (piece_leaves (shifted_piece (pos m) (pos n) p)) (list_any piece_leaves (map (shifted_piece (pos m) (pos n)) shape)) b in
-    rw (part_between p.part m n i j hi hj u.0 v.0) (one_between shape m n i j hi hj u.1 v.1)
+piece_between : (m n i j : ℕ) → i ≤ m → j ≤ n → (p : Piece) → piece_leaves (shifted_piece (pos 0) (pos 0) p) ≡ false → piece_leaves (shifted_piece (pos m) (pos n) p) ≡ false
+    → piece_leaves (shifted_piece (pos i) (pos j) p) ≡ false
+piece_between m n i j hi hj p a b = part_between p.part m n i j hi hj a b
+
+object_between : (m n i j : ℕ) → i ≤ m → j ≤ n → (p : Painted) → is_outside (shifted (pos 0) (pos 0) p) ≡ false → is_outside (shifted (pos m) (pos n) p) ≡ false
+    → is_outside (shifted (pos i) (pos j) p) ≡ false
+object_between m n i j hi hj p a b =
+    any_between piece_leaves (shifted_piece (pos 0) (pos 0)) (shifted_piece (pos m) (pos n)) (shifted_piece (pos i) (pos j)) (piece_between m n i j hi hj) p.shape a b
 
 pub all_between : (block : List Painted) (m n i j : ℕ) → i ≤ m → j ≤ n → list_any is_outside (map (shifted (pos 0) (pos 0)) block) ≡ false → list_any is_outside (map (shifted (pos m) (pos n)) block) ≡ false
     → list_any is_outside (map (shifted (pos i) (pos j)) block) ≡ false
-all_between [] m n i j hi hj a b = refl
-all_between (p ∷ block) m n i j hi hj a b =
-    let u = or_false (is_outside (shifted (pos 0) (pos 0) p)) (list_any is_outside (map (shifted (pos 0) (pos 0)) block)) a in
-    let v = or_false (is_outside (shifted (pos m) (pos n) p)) (list_any is_outside (map (shifted (pos m) (pos n)) block)) b in
-    rw (one_between p.shape m n i j hi hj u.0 v.0) (all_between block m n i j hi hj u.1 v.1)
+all_between block m n i j hi hj a b =
+    any_between is_outside (shifted (pos 0) (pos 0)) (shifted (pos m) (pos n)) (shifted (pos i) (pos j)) (object_between m n i j hi hj) block a b
 
 -- how many copies there are
 length_more : {A : Type 0} (f : ℕ → List A) (a n k : ℕ) → ((i : ℕ) → length (f i) ≡ k) → length (flat_map f (range_with_len a n)) ≡ n * k
@@ -150,14 +154,6 @@ pushed f n start old new e g =
     let zero_more : 0 + n ≡ n = omega arith in
     let more : flat_map f (range_with_len 0 (n + 1)) ≡ flat_map f (range_with_len 0 n) ++ f n = range_more f 0 n ∙ ap (λ k. flat_map f (range_with_len 0 n) ++ f k) zero_more in
     g ∙ ap (λ l. l ++ f n) e ∙ append_assoc start (flat_map f (range_with_len 0 n)) (f n) ∙ ap (λ l. start ++ l) (sym more)
-
--- one object more is tested
-pub any_more : {A B : Type 0} (p : B → Bool) (f : A → B) (xs : List A) (i : ℕ) (d : A) → i < length xs → list_any p (map f (take (i + 1) xs)) ≡ (list_any p (map f (take i xs)) || p (f (get_or xs i d)))
-any_more p f xs i d h =
-    ap (λ l. list_any p (map f l)) (take_more xs i d h)
-    ∙ ap (list_any p) (map-append f (take i xs) (get_or xs i d ∷ []))
-    ∙ list_any-append p (map f (take i xs)) (f (get_or xs i d) ∷ [])
-    ∙ ap (λ b. list_any p (map f (take i xs)) || b) (or_no (p (f (get_or xs i d))))
 
 -- none fails, so this one doesn't
 pub not_this : {A B : Type 0} (p : B → Bool) (f : A → B) (xs : List A) (i : ℕ) (d : A) → i < length xs → list_any p (map f xs) ≡ false → p (f (get_or xs i d)) ≡ false

@@ -1,10 +1,10 @@
 pub mod NumeralLaws
 pub mod PlaceLaws
-pub mod FigureLaws
-pub mod FlashLaws
 pub mod Copies
-pub mod ShapeLaws
-pub mod CopyLaws
+pub mod Shifts
+pub mod Counts
+pub mod Points
+pub mod Ways
 pub mod ReadyLaws
 pub mod ReachedLaws
 pub mod OneOutcome

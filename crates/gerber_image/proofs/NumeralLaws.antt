@@ -23,3 +23,6 @@ fits n i h few = let pow : 10 ^ i ≤ 10 ^ 17 = pow-le-pow_right (omega arith) {
 -- a number of at most 18 digits
 pub fits_all : (n i : ℕ) → n < 1 * 10 ^ i → i ≤ 18 → n < 10 ^ 18
 fits_all n i h few = let pow : 10 ^ i ≤ 10 ^ 18 = pow-le-pow_right (omega arith) {i = i} {j = 18} few in omega (arith, pow, h)
+
+pub some_digits : (n : ℕ) → 0 < 10 ^ n
+some_digits n = let one_less : 10 ^ 0 ≤ 10 ^ n = pow-le-pow_right (omega arith) {i = 0} {j = n} (omega arith) in omega (arith, one_less)

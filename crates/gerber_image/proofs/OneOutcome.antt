@@ -1,14 +1,11 @@
 -- Bytes stand for one thing at most.
 use Rattle.std.proofs.Common.{◌≡◌, ℕ, zero, suc, ◌-◌, ◌<◌, Bool, true, false, List, [], ◌∷◌, length, drop, Option, Some, None, unwrap_or, Result, Ok, Err, refl, ap, sym, ◌∙◌, arith, nat_lt, length-drop}
+use Rattle.number_laws.proofs.Tests.{by_bool}
 use Rattle.gerber_lexer.specs.declared.lexer.Command.{Command}
 use Rattle.gerber_image.specs.Laws.{OneOutcome, StaysSet, EachStaysSet}
 use Rattle.gerber_image.specs.declared.command.Said.{Said}
-use Rattle.gerber_image.specs.InForce.{sets_format, sets_unit, sets_dark, sets_mirror, sets_angle, sets_mode, sets_selected, sets_act, sets_aperture, sets_x, sets_y, sets_repeat, format_at, unit_at}
+use Rattle.gerber_image.specs.InForce.{sets_format, sets_unit, sets_dark, sets_mirror, sets_angle, sets_mode, sets_quadrants, sets_region, sets_selected, sets_act, sets_aperture, sets_x, sets_y, sets_repeat, format_at, unit_at}
 use Rattle.gerber_image.specs.Gerber.{Read, Outcome, BeginsWith, next_behind, said_by, outcome_behind}
-
-by_bool : {P : Type 0} (b : Bool) → (b ≡ true → P) → (b ≡ false → P) → P
-by_bool true t f = t refl
-by_bool false t f = f refl
 
 -- the commands before the last few
 dropped : (bytes : List ℕ) (k : ℕ) (q : List Read) → BeginsWith bytes q → BeginsWith bytes (drop k q)
@@ -75,6 +72,8 @@ each_stays_set = record {
   mirror = stays_set (λ _. sets_mirror);
   angle = stays_set (λ _. sets_angle);
   mode = stays_set (λ _. sets_mode);
+  quadrants = stays_set (λ _. sets_quadrants);
+  region = stays_set (λ _. sets_region);
   selected = stays_set (λ _. sets_selected);
   aperture = λ number. stays_set (λ past. sets_aperture number (unit_at past));
   x = stays_set (λ past. sets_x (format_at past) (unit_at past));

@@ -1,18 +1,13 @@
 -- What a reader that has come so far answers.
-use Rattle.std.proofs.Common.{◌≡◌, ℕ, Bool, true, false, List, [], ◌∷◌, length, Option, Some, None, Ok, Err, unwrap_or, refl, ap, sym, ◌∙◌}
+use Rattle.std.proofs.Common.{◌≡◌, ℕ, Bool, false, List, ◌∷◌, Option, Some, None, Ok, unwrap_or, refl, ap, sym, ◌∙◌}
 use Rattle.std.specs.Option.{option_or}
 use Rattle.gerber_lexer.specs.Cut.{next_of}
 use Rattle.gerber_lexer.specs.declared.lexer.Command.{Command}
-use Rattle.gerber_image.specs.Gerber.{all_said, said_by, StandsFor, outcome_behind, found, told, led}
+use Rattle.gerber_image.specs.Gerber.{all_said, said_by, outcome_behind, found, told, led}
 use Rattle.gerber_image.specs.Checks.{Held, held, fault_of, is_end}
-use Rattle.gerber_image.specs.State.{after, nothing}
+use Rattle.gerber_image.specs.State.{after}
 use Rattle.gerber_image.specs.Reached.{IsReached}
 use Rattle.gerber_image.specs.declared.command.Said.{Said}
-use Rattle.gerber_image.specs.declared.command.GerberKind.{GerberKind}
-use Rattle.gerber_image.specs.declared.command.GerberKind.TheVariants as kinds
-
-pub begun : (bytes : List ℕ) → IsReached bytes 0 false nothing
-begun bytes = record { past = []; begins = tt; place = refl; kept = refl }
 
 or_default : {A : Type 0} (a b : Option A) (d : A) → unwrap_or (option_or a b) d ≡ unwrap_or a (unwrap_or b d)
 or_default None b d = refl
@@ -25,33 +20,10 @@ after_held past said = simp or_default refl
 pub one_more : (h : Held) (past : List Said) (said : Said) → h ≡ held past → after h said ≡ held (said ∷ past)
 one_more h past said e = ap (λ h. after h said) e ∙ after_held past said
 
-pub unlexed : (bytes : List ℕ) (at : ℕ) (inside : Bool) (h : Held) (e : ℕ) → IsReached bytes at inside h → next_of bytes at inside ≡ Err e → StandsFor bytes (Err (kinds.Syntax, e))
-unlexed bytes at inside h e r f = (r.past, r.begins, ap (found bytes (all_said r.past)) (r.place ∙ f))
-
-pub unended : (bytes : List ℕ) (at : ℕ) (inside : Bool) (h : Held) → IsReached bytes at inside h → next_of bytes at inside ≡ Ok None → StandsFor bytes (Err (kinds.NoEnd, length bytes))
-unended bytes at inside h r f = (r.past, r.begins, ap (found bytes (all_said r.past)) (r.place ∙ f))
-
-pub unread : (bytes : List ℕ) (at : ℕ) (inside : Bool) (h : Held) (c : Command) → IsReached bytes at inside h → next_of bytes at inside ≡ Ok (Some c) → said_by bytes c ≡ None
-    → StandsFor bytes (Err (kinds.Syntax, c.from))
-unread bytes at inside h c r f g = (r.past, r.begins, ap (found bytes (all_said r.past)) (r.place ∙ f) ∙ ap (told (all_said r.past) c.from) g)
-
 -- what a command that says something leads to
 leads : (bytes : List ℕ) (at : ℕ) (inside : Bool) (h : Held) (c : Command) (said : Said) (r : IsReached bytes at inside h) → next_of bytes at inside ≡ Ok (Some c) → said_by bytes c ≡ Some said
     → outcome_behind bytes r.past ≡ led (all_said r.past) said c.from (fault_of h said)
 leads bytes at inside h c said r f g = ap (found bytes (all_said r.past)) (r.place ∙ f) ∙ ap (told (all_said r.past) c.from) g ∙ ap (λ h. led (all_said r.past) said c.from (fault_of h said)) (sym r.kept)
-
-pub refused : (bytes : List ℕ) (at : ℕ) (inside : Bool) (h : Held) (c : Command) (said : Said) (kind : GerberKind) → IsReached bytes at inside h → next_of bytes at inside ≡ Ok (Some c) → said_by bytes c ≡ Some said
-    → fault_of h said ≡ Some kind → StandsFor bytes (Err (kind, c.from))
-refused bytes at inside h c said kind r f g k = (r.past, r.begins, leads bytes at inside h c said r f g ∙ ap (led (all_said r.past) said c.from) k)
-
-pub ended : (bytes : List ℕ) (at : ℕ) (inside : Bool) (h : Held) (c : Command) (said : Said) → IsReached bytes at inside h → next_of bytes at inside ≡ Ok (Some c) → said_by bytes c ≡ Some said
-    → fault_of h said ≡ None → is_end said ≡ true → StandsFor bytes (Ok h.painted)
-ended bytes at inside h c said r f g k e = (
-  r.past,
-  r.begins,
-  leads bytes at inside h c said r f g ∙ ap (led (all_said r.past) said c.from) k
-      ∙ rw e (ap (λ (h : Held). Some (Ok h.painted)) (sym r.kept)),
-)
 
 pub went_on : (bytes : List ℕ) (at : ℕ) (inside : Bool) (h new : Held) (c : Command) (said : Said) → IsReached bytes at inside h → next_of bytes at inside ≡ Ok (Some c) → said_by bytes c ≡ Some said
     → fault_of h said ≡ None → is_end said ≡ false → new ≡ after h said → IsReached bytes c.next c.inside new

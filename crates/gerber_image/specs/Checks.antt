@@ -1,11 +1,13 @@
 -- The checks of a command, in their order.
-use Rattle.std.specs.Prelude.{◌+◌, ◌^◌, ◌||◌, ℤ, pos, Bool, true, false, List, [], ◌∷◌, length, Option, Some, None, is_some, is_none, unwrap_or, Result, Err, ◌==◌, if◌then◌else◌, ◌&&◌, not, nat_lt}
+use Rattle.std.specs.Prelude.{◌+◌, ◌||◌, pos, Bool, true, false, List, [], ◌∷◌, length, Option, Some, None, is_some, is_none, Result, Err, ◌==◌, if◌then◌else◌, ◌&&◌, not, nat_lt}
 use Rattle.std.specs.Option.{option_or}
 use Rattle.std.specs.List.{list_any}
 use Rattle.board_base.specs.declared.places.Point.{Point}
 use Rattle.fixed_num.specs.Angles.{in_range}
 use Rattle.shape_parts.specs.declared.shape.Part.{Part}
-use Rattle.shape_parts.specs.declared.shape.Part.TheVariants.{Disc, Capsule}
+use Rattle.fixed_num.specs.declared.arcs.ArcError.{ArcError}
+use Rattle.fixed_num.specs.declared.arcs.ArcError.TheVariants as arc_errors
+use Rattle.shape_parts.specs.declared.shape.Part.TheVariants.{Disc, Capsule, Area}
 use Rattle.shape_parts.specs.declared.shape.Piece.{Piece}
 use Rattle.shape_parts.specs.declared.shape.Painted.{Painted}
 use Rattle.apertures.specs.declared.aperture.ApertureError.{ApertureError}
@@ -15,14 +17,14 @@ use Rattle.apertures.specs.declared.aperture.Unit.TheVariants as units
 use Rattle.apertures.specs.Figures.{Figure}
 use Rattle.apertures.specs.Placed.{placed}
 use Rattle.gerber_image.specs.InForce.{InForce, in_force, defined_under}
-use Rattle.apertures.specs.Defined.{at}
-use Rattle.gerber_image.specs.Image.{x_after, y_after, figure_of, copies, block_at, painted_by, painted_after}
+use Rattle.gerber_image.specs.Routes.{place_after, mode_after, is_curved, arc_centre, route}
+use Rattle.gerber_image.specs.Regions.{Outline}
+use Rattle.gerber_image.specs.Image.{figure_of, copies, outline_at, block_at, painted_by, painted_after, vertices_in}
+use Rattle.gerber_image.specs.Objects.{excess}
 use Rattle.gerber_image.specs.declared.command.Format.{Format}
 use Rattle.gerber_image.specs.declared.command.Digits.{Digits}
 use Rattle.gerber_image.specs.declared.command.Act.{Act}
 use Rattle.gerber_image.specs.declared.command.Act.TheVariants as acts
-use Rattle.gerber_image.specs.declared.command.Mode.{Mode}
-use Rattle.gerber_image.specs.declared.command.Mode.TheVariants as modes
 use Rattle.gerber_image.specs.declared.command.Operation.{Operation}
 use Rattle.gerber_image.specs.declared.command.Said.{Said}
 use Rattle.gerber_image.specs.declared.command.Said.TheVariants as says
@@ -64,9 +66,10 @@ is_no_aperture _ = false
 -- the commands that may not stand here
 abbrev pub is_misplaced : InForce → Said → Bool
 is_misplaced now (says.Format format) = not (same_format format now.format)
-is_misplaced now (says.Unit unit) = not (same_unit unit now.unit)
+is_misplaced now (says.Unit unit in_block) = not (same_unit unit now.unit)
 is_misplaced now (says.Define number template) = is_no_aperture (defined_under now.unit template)
 is_misplaced now says.Close = is_none now.repeat
+is_misplaced now says.EndRegion = not now.region
 is_misplaced now (says.Operate o) = is_none (option_or o.act now.act) || has_long now.format o
 is_misplaced now _ = false
 
@@ -77,21 +80,10 @@ abbrev pub is_unbuilt_aperture : Result Figure ApertureError → Bool
 is_unbuilt_aperture (Err errors.NotBuiltYet) = true
 is_unbuilt_aperture _ = false
 
--- a stroke
-abbrev pub is_draw : Option Act → Bool
-is_draw (Some acts.Draw) = true
-is_draw _ = false
-
--- along an arc
-abbrev pub is_curved : Mode → Bool
-is_curved modes.Linear = false
-is_curved _ = true
-
 -- what isn't built yet
 abbrev pub is_unbuilt : InForce → Said → Bool
 is_unbuilt now says.NotBuiltYet = true
 is_unbuilt now (says.Define number template) = is_unbuilt_aperture (defined_under now.unit template)
-is_unbuilt now (says.Operate o) = is_draw (option_or o.act now.act) && is_curved (unwrap_or o.mode now.mode)
 is_unbuilt now _ = false
 
 -- Unsupported.
@@ -106,11 +98,24 @@ abbrev pub is_strokeless : Option Figure → Bool
 is_strokeless (Some figure) = is_none figure.stroke
 is_strokeless None = false
 
+-- a draw
+abbrev pub is_draw : Option Act → Bool
+is_draw (Some acts.Draw) = true
+is_draw _ = false
+
+-- an arc where arcs may not be longer than a quarter
+abbrev pub is_short_arc : InForce → Operation → Bool
+is_short_arc now o = is_curved (mode_after now o) && not now.quadrants
+
+-- a stroke with an aperture that makes none
+abbrev pub lacks_stroke : InForce → Bool
+lacks_stroke now = not now.region && is_strokeless (figure_of now.selected now.aperture)
+
 -- what is left out
 abbrev pub is_left_out : InForce → Said → Bool
 is_left_out now says.Unsupported = true
 is_left_out now (says.Define number template) = is_unsupported_aperture (defined_under now.unit template)
-is_left_out now (says.Operate o) = is_draw (option_or o.act now.act) && is_strokeless (figure_of now.selected now.aperture)
+is_left_out now (says.Operate o) = is_draw (option_or o.act now.act) && (is_short_arc now o || lacks_stroke now)
 is_left_out now _ = false
 
 -- NoFormat, NoUnit and NoAperture.
@@ -126,16 +131,38 @@ needs_unit (says.Define number template) = true
 needs_unit (says.Open columns rows dx dy) = true
 needs_unit said = has_coordinate said
 
--- a move
-abbrev pub is_move : Option Act → Bool
-is_move (Some acts.Move) = true
-is_move _ = false
+-- a flash
+abbrev pub is_flash : Option Act → Bool
+is_flash (Some acts.Flash) = true
+is_flash _ = false
+
+-- a flash, or a draw outside regions
+abbrev pub wants_aperture : Bool → Option Act → Bool
+wants_aperture region act = is_flash act || (is_draw act && not region)
 
 -- an undefined aperture is selected, or none is where one is wanted
 abbrev pub lacks_aperture : InForce → Said → Bool
 lacks_aperture now (says.Select number) = is_none (figure_of number now.aperture)
-lacks_aperture now (says.Operate o) = not (is_move (option_or o.act now.act)) && is_none now.selected
+lacks_aperture now (says.Operate o) = wants_aperture now.region (option_or o.act now.act) && is_none now.selected
 lacks_aperture now _ = false
+
+-- OpenRegion.
+
+-- what a region may not hold: a flash, another region, the end, and what stands between percent signs, but for attributes and names
+abbrev pub is_barred : InForce → Said → Bool
+is_barred now (says.Operate o) = is_flash (option_or o.act now.act)
+is_barred now (says.Unit unit in_block) = in_block
+is_barred now says.BeginRegion = true
+is_barred now says.End = true
+is_barred now (says.Format format) = true
+is_barred now (says.Polarity dark) = true
+is_barred now (says.Mirror mirror) = true
+is_barred now (says.Rotation angle) = true
+is_barred now (says.Define number template) = true
+is_barred now (says.Open columns rows dx dy) = true
+is_barred now says.Close = true
+is_barred now says.Restated = true
+is_barred now _ = false
 
 -- OpenRepeat.
 
@@ -143,6 +170,18 @@ lacks_aperture now _ = false
 abbrev pub is_end : Said → Bool
 is_end says.End = true
 is_end _ = false
+
+-- OpenArc.
+
+-- the ends aren't equally far from the centre
+abbrev pub is_open : Result (List Point) ArcError → Bool
+is_open (Err (arc_errors.OpenArc start_radius end_radius)) = true
+is_open _ = false
+
+-- an arc that its ends don't close
+abbrev pub opens_arc : InForce → Said → Bool
+opens_arc now (says.Operate o) = is_draw (option_or o.act now.act) && is_open (route now o)
+opens_arc now _ = false
 
 -- OutOfRange.
 
@@ -159,24 +198,43 @@ is_far p = not (in_range p.x && in_range p.y)
 abbrev pub part_leaves : Part → Bool
 part_leaves (Disc c d) = is_far c
 part_leaves (Capsule a b d) = is_far a || is_far b
+part_leaves (Area loops) = list_any (list_any is_far) loops
 
--- the same of a piece
+-- a point of the piece is
 abbrev pub piece_leaves : Piece → Bool
 piece_leaves p = part_leaves p.part
 
--- the same of an object
+-- a point of the object is
 abbrev pub is_outside : Painted → Bool
 is_outside p = list_any piece_leaves p.shape
 
+-- a point of an arc is past the range
+abbrev pub is_past : Result (List Point) ArcError → Bool
+is_past (Err arc_errors.PastRange) = true
+is_past _ = false
+
+-- an arc whose centre is past the range
+abbrev pub is_far_arc : InForce → Operation → Bool
+is_far_arc now o = is_curved (mode_after now o) && is_far (arc_centre now o)
+
+-- a draw with a centre or a point past the range
+abbrev pub draw_leaves : InForce → Operation → Bool
+draw_leaves now o = is_far_arc now o || is_past (route now o)
+
 -- a flash with a point past the range
-abbrev pub flash_leaves : Option Act → InForce → ℤ → ℤ → Option Figure → Bool
-flash_leaves (Some acts.Flash) now x y (Some figure) = is_none (placed (at x y) now.mirror (pos now.angle) figure.pieces)
-flash_leaves _ now x y _ = false
+abbrev pub flash_leaves : InForce → Operation → Option Figure → Bool
+flash_leaves now o (Some figure) = is_none (placed (place_after now o) now.mirror (pos now.angle) figure.pieces)
+flash_leaves now o None = false
+
+-- what an act brings past the range
+abbrev pub act_leaves : Option Act → InForce → Operation → Bool
+act_leaves (Some acts.Draw) now o = draw_leaves now o
+act_leaves (Some acts.Flash) now o = flash_leaves now o (figure_of now.selected now.aperture)
+act_leaves _ now o = false
 
 -- what a command brings past the range
 abbrev pub leaves_range : InForce → List Painted → Said → Bool
-leaves_range now block (says.Operate o) =
-    is_far (at (x_after now o) (y_after now o)) || flash_leaves (option_or o.act now.act) now (x_after now o) (y_after now o) (figure_of now.selected now.aperture)
+leaves_range now block (says.Operate o) = is_far (place_after now o) || act_leaves (option_or o.act now.act) now o
 leaves_range now block (says.Define number template) = is_great (defined_under now.unit template)
 leaves_range now block says.Close = list_any is_outside (copies now.repeat block)
 leaves_range now block (says.Open columns rows dx dy) = list_any is_outside (copies now.repeat block)
@@ -187,14 +245,15 @@ leaves_range now block _ = false
 -- all that a command's checks look at
 pub record Held : Type 0 where
   pub now : InForce
+  pub outline : Outline
   pub block : List Painted
   pub painted : List Painted
 
 -- the same behind these commands
 abbrev pub held : List Said → Held
-held past = record { now = in_force past; block = block_at past; painted = painted_by past }
+held past = record { now = in_force past; outline = outline_at past; block = block_at past; painted = painted_by past }
 
--- the first check of a command that fails, the count of objects aside
+-- the first check of a command that fails, the counts of objects and vertices aside
 abbrev pub first_fault_of : InForce → List Painted → Said → Option GerberKind
 first_fault_of now block said =
     first_fault ((is_misplaced now said, kinds.Syntax)
@@ -203,13 +262,19 @@ first_fault_of now block said =
     ∷ (has_coordinate said && is_none now.format, kinds.NoFormat)
     ∷ (needs_unit said && is_none now.unit, kinds.NoUnit)
     ∷ (lacks_aperture now said, kinds.NoAperture)
+    ∷ (now.region && is_barred now said, kinds.OpenRegion)
     ∷ (is_end said && is_some now.repeat, kinds.OpenRepeat)
+    ∷ (opens_arc now said, kinds.OpenArc)
     ∷ (leaves_range now block said, kinds.OutOfRange)
     ∷ [])
 
--- more than 2^20 objects
+-- what there is too much of among the objects
+abbrev pub excess_of : List Painted → Option GerberKind
+excess_of painted = excess (length painted) (vertices_in painted)
+
+-- the same of what is painted behind a command
 abbrev pub count_fault : Held → Said → Option GerberKind
-count_fault h said = if nat_lt (2 ^ 20) (length (painted_after h.now h.block h.painted said)) then Some kinds.TooManyObjects else None
+count_fault h said = excess_of (painted_after h.now h.outline h.block h.painted said)
 
 -- the first check of a command that fails
 abbrev pub fault_of : Held → Said → Option GerberKind

@@ -1,5 +1,5 @@
 -- What extended commands say. The text is without its star and without line breaks.
-use Rattle.std.specs.Prelude.{ℕ, ℤ, pos, ◌-◌, ◌%◌, List, [], ◌∷◌, length, take, drop, codes, Option, Some, None, is_some, Result, Ok, Err, Bool, true, false, not, if◌then◌else◌, ◌&&◌, ◌||◌, ◌==◌, nat_lt, nat_le, int_le, unsigned_abs}
+use Rattle.std.specs.Prelude.{ℕ, ℤ, pos, ◌-◌, List, [], ◌∷◌, length, take, drop, codes, Option, Some, None, is_some, Result, Ok, Err, Bool, true, false, not, if◌then◌else◌, ◌&&◌, ◌||◌, ◌==◌, nat_lt, nat_le, int_le, unsigned_abs}
 use Rattle.std.specs.Char.{is_ascii_digit, is_ascii_uppercase}
 use Rattle.std.specs.List.{list_all, list_any}
 use Rattle.std.specs.Option.{option_or}
@@ -64,8 +64,8 @@ format_of text = do
 -- MOMM or MOIN
 abbrev pub unit_of : List ℕ → Option Said
 unit_of text =
-    if bytes_eq text (codes "MOMM") then Some (says.Unit units.Mm)
-    else if bytes_eq text (codes "MOIN") then Some (says.Unit units.Inch)
+    if bytes_eq text (codes "MOMM") then Some (says.Unit units.Mm true)
+    else if bytes_eq text (codes "MOIN") then Some (says.Unit units.Inch true)
     else None
 
 -- LPD or LPC
@@ -84,13 +84,9 @@ mirror_of text =
     else if bytes_eq text (codes "LMXY") then Some (says.Mirror mirrors.Xy)
     else None
 
--- an angle of whole quarters
-abbrev pub quarters : ℕ → Said
-quarters angle = if angle % 90000000 == 0 then says.Rotation angle else says.NotBuiltYet
-
 -- an angle that is read, in the first turn
 abbrev pub turned : {E : Type 0} → Result ℤ E → Option Said
-turned (Ok angle) = Some (quarters (in_turn angle))
+turned (Ok angle) = Some (says.Rotation (in_turn angle))
 turned (Err e) = None
 
 -- LR and an angle in degrees, cut to millionths
@@ -101,7 +97,7 @@ rotation_of text = do
 
 -- a scale of exactly 1, or another
 abbrev pub scaled : Result ℤ NumError → Option Said
-scaled (Ok scale) = Some (if int_eq scale (pos 1) then says.Ignored else says.Unsupported)
+scaled (Ok scale) = Some (if int_eq scale (pos 1) then says.Restated else says.Unsupported)
 scaled (Err (TooFine decimals)) = Some says.Unsupported
 scaled (Err e) = None
 
@@ -193,18 +189,18 @@ unfoldable pub pair_of : List ℕ → ℕ → List ℕ → Option Said
 pair_of start digit text = do
   rest ← after start text
   round_b ← cut 66 rest
-  if is_plain digit round_b.0 && is_plain digit round_b.1 then Some says.Ignored else None
+  if is_plain digit round_b.0 && is_plain digit round_b.1 then Some says.Restated else None
 
 -- IR and a 0
 unfoldable pub no_rotation_of : List ℕ → Option Said
 no_rotation_of text = do
   rest ← after (codes "IR") text
-  if is_plain 48 rest then Some says.Ignored else None
+  if is_plain 48 rest then Some says.Restated else None
 
 -- the old commands that say what holds without them
 abbrev pub old_of : List ℕ → Option Said
 old_of text =
-    if bytes_eq text (codes "IPPOS") || bytes_eq text (codes "ASAXBY") then Some says.Ignored
+    if bytes_eq text (codes "IPPOS") || bytes_eq text (codes "ASAXBY") then Some says.Restated
     else option_or (no_rotation_of text)
     (option_or (pair_of (codes "OFA") 48 text) (option_or (pair_of (codes "MIA") 48 text) (pair_of (codes "SFA") 49 text)))
 

@@ -1,5 +1,5 @@
 -- What is in force at a command. `past` has the commands before it, the nearest first.
-use Rattle.std.specs.Prelude.{ℕ, ◌*◌, ℤ, pos, Bool, true, List, [], ◌∷◌, Option, Some, None, unwrap_or, Result, Ok, Err, ◌==◌, if◌then◌else◌, unsigned_abs}
+use Rattle.std.specs.Prelude.{ℕ, ◌*◌, ℤ, pos, Bool, true, false, List, [], ◌∷◌, Option, Some, None, unwrap_or, Result, Ok, Err, ◌==◌, if◌then◌else◌, unsigned_abs}
 use Rattle.std.specs.Option.{option_or}
 use Rattle.apertures.specs.declared.aperture.ApertureError.{ApertureError}
 use Rattle.apertures.specs.declared.aperture.Unit.{Unit}
@@ -33,7 +33,7 @@ sets_format _ = None
 
 -- the unit
 abbrev pub sets_unit : Said → Option Unit
-sets_unit (says.Unit unit) = Some unit
+sets_unit (says.Unit unit in_block) = Some unit
 sets_unit _ = None
 
 -- whether objects are dark
@@ -56,6 +56,17 @@ abbrev pub sets_mode : Said → Option Mode
 sets_mode (says.Mode mode) = Some mode
 sets_mode (says.Operate o) = o.mode
 sets_mode _ = None
+
+-- whether arcs may be longer than a quarter
+abbrev pub sets_quadrants : Said → Option Bool
+sets_quadrants (says.Quadrants all) = Some all
+sets_quadrants _ = None
+
+-- whether a region is open
+abbrev pub sets_region : Said → Option Bool
+sets_region says.BeginRegion = Some true
+sets_region says.EndRegion = Some false
+sets_region _ = None
 
 -- the number of the selected aperture
 abbrev pub sets_selected : Said → Option ℕ
@@ -139,6 +150,14 @@ angle_at past = unwrap_or (last_set (λ _. sets_angle) past) 0
 abbrev pub mode_at : List Said → Mode
 mode_at past = unwrap_or (last_set (λ _. sets_mode) past) modes.Linear
 
+-- arcs aren't set to be longer than a quarter at the start
+abbrev pub quadrants_at : List Said → Bool
+quadrants_at past = unwrap_or (last_set (λ _. sets_quadrants) past) false
+
+-- no region is open at the start
+abbrev pub region_at : List Said → Bool
+region_at past = unwrap_or (last_set (λ _. sets_region) past) false
+
 -- no selection at the start
 abbrev pub selected_at : List Said → Option ℕ
 selected_at past = last_set (λ _. sets_selected) past
@@ -171,6 +190,8 @@ pub record InForce : Type 0 where
   pub mirror : Mirror
   pub angle : ℕ
   pub mode : Mode
+  pub quadrants : Bool
+  pub region : Bool
   pub selected : Option ℕ
   pub aperture : ℕ → Option Figure
   pub x : ℤ
@@ -187,6 +208,8 @@ in_force past = record {
   mirror = mirror_at past;
   angle = angle_at past;
   mode = mode_at past;
+  quadrants = quadrants_at past;
+  region = region_at past;
   selected = selected_at past;
   aperture = aperture_at past;
   x = x_at past;

@@ -1,6 +1,6 @@
 -- Laws of what is in force and of what bytes stand for.
 use Rattle.std.specs.Prelude.{◌≡◌, ℕ, List, [], ◌∷◌, ◌++◌, Option, Some, None, ⊤}
-use Rattle.gerber_image.specs.InForce.{last_set, sets_format, sets_unit, sets_dark, sets_mirror, sets_angle, sets_mode, sets_selected, sets_act, sets_aperture, sets_x, sets_y, sets_repeat, format_at, unit_at}
+use Rattle.gerber_image.specs.InForce.{last_set, sets_format, sets_unit, sets_dark, sets_mirror, sets_angle, sets_mode, sets_quadrants, sets_region, sets_selected, sets_act, sets_aperture, sets_x, sets_y, sets_repeat, format_at, unit_at}
 use Rattle.gerber_image.specs.Checks.{held}
 use Rattle.gerber_image.specs.State.{after}
 use Rattle.gerber_image.specs.Gerber.{Outcome, StandsFor}
@@ -23,6 +23,8 @@ pub record EachStaysSet : Type 0 where
   pub mirror : StaysSet (λ _. sets_mirror)
   pub angle : StaysSet (λ _. sets_angle)
   pub mode : StaysSet (λ _. sets_mode)
+  pub quadrants : StaysSet (λ _. sets_quadrants)
+  pub region : StaysSet (λ _. sets_region)
   pub selected : StaysSet (λ _. sets_selected)
   pub aperture : (number : ℕ) → StaysSet (λ past. sets_aperture number (unit_at past))
   pub x : StaysSet (λ past. sets_x (format_at past) (unit_at past))
@@ -30,7 +32,7 @@ pub record EachStaysSet : Type 0 where
   pub act : StaysSet (λ _. sets_act)
   pub repeat : StaysSet (λ past. sets_repeat (unit_at past))
 
--- what is kept behind a command is what is in force there, with the block and the image
+-- what is kept behind a command is what is in force there, with the contours, the block and the image
 abbrev pub KeepsPace : Type 0
 KeepsPace = (past : List Said) (said : Said) → after (held past) said ≡ held (said ∷ past)
 

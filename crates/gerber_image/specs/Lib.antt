@@ -4,9 +4,11 @@ pub mod Words
 pub mod Extended
 pub mod Numbers
 pub mod InForce
+pub mod Routes
+pub mod Regions
 pub mod Image
-pub mod Checks
 pub mod Objects
+pub mod Checks
 pub mod State
 pub mod Copies
 pub mod Fits

@@ -1,10 +1,15 @@
--- What every object of an image keeps to.
-use Rattle.std.specs.Prelude.{◌<◌, ◌^◌, length}
-use Rattle.std.specs.List.{All}
-use Rattle.shape_parts.specs.declared.shape.Painted.{Painted}
-use Rattle.apertures.specs.Figures.{IsBoundedPiece}
+-- How much an image may hold.
+use Rattle.std.specs.Prelude.{ℕ, ◌^◌, Option, Some, None, if◌then◌else◌, nat_lt}
+use Rattle.gerber_image.specs.declared.command.GerberKind.{GerberKind}
+use Rattle.gerber_image.specs.declared.command.GerberKind.TheVariants.{TooManyObjects, TooManyVertices}
 
--- few parts, all points of which are at most 500 mm from each axis, with widths of at most a metre
-pub record IsObject (p : Painted) : Type 0 where
-  pub few : length p.shape < 2 ^ 32
-  pub parts : All IsBoundedPiece p.shape
+-- a number of vertices, or one more than an image may have
+abbrev pub capped : ℕ → ℕ
+capped n = if nat_lt (2 ^ 22) n then 4194305 else n
+
+-- more than 2^20 objects, or more than 2^22 vertices
+abbrev pub excess : ℕ → ℕ → Option GerberKind
+excess objects vertices =
+    if nat_lt (2 ^ 20) objects then Some TooManyObjects
+    else if nat_lt (2 ^ 22) vertices then Some TooManyVertices
+    else None

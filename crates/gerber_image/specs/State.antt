@@ -1,22 +1,20 @@
 -- What the reader keeps, and how a command changes it.
-use Rattle.std.specs.Prelude.{◌≡◌, ℕ, ◌^◌, ◌≤◌, ◌<◌, nat_lt, ℤ, pos, true, List, [], ◌∷◌, length, Option, Some, None, unwrap_or, Result, if◌then◌else◌, MatchResult, MatchOption, IfSome, ⊤, ◌++◌}
+use Rattle.std.specs.Prelude.{◌≡◌, ◌^◌, ◌≤◌, ◌<◌, pos, Bool, true, false, ◌&&◌, ◌||◌, List, [], ◌∷◌, Option, Some, None, unwrap_or, Result, if◌then◌else◌, MatchResult, MatchOption, IfSome, ⊤, ◌++◌}
 use Rattle.std.specs.Option.{option_or}
 use Rattle.std.specs.Ordering.{nat_cmp}
-use Rattle.std.specs.List.{All, AllByRecursion, list_any}
+use Rattle.std.specs.List.{list_any}
 use Rattle.std.specs.BTreeMap.{get}
 use Rattle.board_base.specs.Places.{IsPlace}
-use Rattle.shape_parts.specs.Parts.{IsWidth}
-use Rattle.shape_parts.specs.declared.shape.Part.{Part}
-use Rattle.shape_parts.specs.declared.shape.Part.TheVariants.{Disc, Capsule}
-use Rattle.shape_parts.specs.declared.shape.Piece.{Piece}
-use Rattle.apertures.specs.Figures.{Figure}
 use Rattle.apertures.specs.declared.place.Mirror.TheVariants as mirrors
-use Rattle.gerber_image.specs.Objects.{IsObject}
-use Rattle.gerber_image.specs.InForce.{InForce, sets_format, sets_unit, sets_dark, sets_mirror, sets_angle, sets_mode, sets_selected, sets_act, sets_x, sets_y, sets_aperture, sets_repeat}
+use Rattle.gerber_image.specs.InForce.{InForce, sets_format, sets_unit, sets_dark, sets_mirror, sets_angle, sets_mode, sets_quadrants, sets_region, sets_selected, sets_act, sets_x, sets_y, sets_aperture, sets_repeat}
 use Rattle.apertures.specs.Defined.{at}
-use Rattle.gerber_image.specs.Image.{block_after, painted_after, copies}
-use Rattle.gerber_image.specs.Checks.{Held, fault_of, is_outside}
+use Rattle.gerber_image.specs.Regions.{no_outline}
+use Rattle.gerber_image.specs.Routes.{place_after, route}
+use Rattle.gerber_image.specs.Image.{outline_after, block_after, painted_after, copies, figure_of}
+use Rattle.gerber_image.specs.Checks.{Held, fault_of, is_outside, excess_of, is_open, is_far, is_flash, draw_leaves, flash_leaves}
 use Rattle.gerber_image.specs.declared.command.Mode.TheVariants as modes
+use Rattle.gerber_image.specs.declared.command.Act.{Act}
+use Rattle.gerber_image.specs.declared.command.Operation.{Operation}
 use Rattle.gerber_image.specs.declared.command.Repeat.{Repeat}
 use Rattle.gerber_image.specs.declared.command.Said.{Said}
 use Rattle.gerber_image.specs.declared.command.GerberKind.{GerberKind}
@@ -35,6 +33,8 @@ kept s = record {
     mirror = s.mirror;
     angle = s.angle;
     mode = s.mode;
+    quadrants = s.quadrants;
+    region = s.region;
     selected = s.selected;
     aperture = λ number. get nat_cmp s.apertures number;
     x = s.here.x;
@@ -42,8 +42,9 @@ kept s = record {
     act = s.act;
     repeat = s.repeat;
   };
-  block = s.block.items;
-  painted = s.painted.items;
+  outline = record { ended = s.contours.items; points = s.contour };
+  block = s.block;
+  painted = s.painted;
 }
 
 -- what is in force behind a command
@@ -55,6 +56,8 @@ now_after now said = record {
   mirror = unwrap_or (sets_mirror said) now.mirror;
   angle = unwrap_or (sets_angle said) now.angle;
   mode = unwrap_or (sets_mode said) now.mode;
+  quadrants = unwrap_or (sets_quadrants said) now.quadrants;
+  region = unwrap_or (sets_region said) now.region;
   selected = option_or (sets_selected said) now.selected;
   aperture = λ number. option_or (sets_aperture number now.unit said) (now.aperture number);
   x = unwrap_or (sets_x now.format now.unit said) now.x;
@@ -67,8 +70,9 @@ now_after now said = record {
 abbrev pub after : Held → Said → Held
 after h said = record {
   now = now_after h.now said;
-  block = block_after h.now h.block said;
-  painted = painted_after h.now h.block h.painted said;
+  outline = outline_after h.now h.outline said;
+  block = block_after h.now h.outline h.block said;
+  painted = painted_after h.now h.outline h.block h.painted said;
 }
 
 -- what stops a reader: want of memory, or this fault
@@ -89,29 +93,12 @@ pub record IsRepeat (r : Repeat) : Type 0 where
   pub dx : r.dx < 2 ^ 110
   pub dy : r.dy < 2 ^ 110
 
--- the width of a part
-abbrev pub part_width : Part → ℤ
-part_width (Disc c d) = d
-part_width (Capsule a b d) = d
-
--- a width that a shape may hold
-abbrev pub HasWidth : Piece → Type 0
-HasWidth p = IsWidth (part_width p.part)
-
--- one part or two, with such widths
-pub record IsBuilt (f : Figure) : Type 0 where
-  pub few : length f.pieces ≤ 2
-  pub widths : AllByRecursion HasWidth f.pieces
-
 -- what holds before each command
 pub record IsReady (h : Held) : Type 0 where
-  pub few : length h.painted ≤ 2 ^ 20
+  pub within : excess_of h.painted ≡ None
   pub format : MatchOption h.now.format ⊤ (λ f. (f.whole ≤ 6) × (f.decimals ≤ 6))
   pub repeat : IfSome h.now.repeat IsRepeat
   pub here : IsPlace (at h.now.x h.now.y)
-  pub apertures : (number : ℕ) → IfSome (h.now.aperture number) IsBuilt
-  pub block : All IsObject h.block
-  pub painted : All IsObject h.painted
 
 -- an object, if there is one
 abbrev pub listed : {X : Type 0} → Option X → List X
@@ -128,6 +115,8 @@ nothing = record {
     mirror = mirrors.Keep;
     angle = 0;
     mode = modes.Linear;
+    quadrants = false;
+    region = false;
     selected = None;
     aperture = λ number. None;
     x = pos 0;
@@ -135,6 +124,7 @@ nothing = record {
     act = None;
     repeat = None;
   };
+  outline = no_outline;
   block = [];
   painted = [];
 }
@@ -143,5 +133,15 @@ nothing = record {
 abbrev pub block_fault : Held → Option GerberKind
 block_fault h =
     if list_any is_outside (copies h.now.repeat h.block) then Some kinds.OutOfRange
-    else if nat_lt (2 ^ 20) (length (h.painted ++ copies h.now.repeat h.block)) then Some kinds.TooManyObjects
+    else excess_of (h.painted ++ copies h.now.repeat h.block)
+
+-- the fault of the way of an operation, which draws or doesn't
+abbrev pub way_fault : InForce → Bool → Operation → Option GerberKind
+way_fault now draws o =
+    if draws && is_open (route now o) then Some kinds.OpenArc
+    else if is_far (place_after now o) || (draws && draw_leaves now o) then Some kinds.OutOfRange
     else None
+
+-- a flash that leaves the range
+abbrev pub flash_fault : Option Act → InForce → Operation → Bool
+flash_fault act now o = is_flash act && flash_leaves now o (figure_of now.selected now.aperture)

@@ -1,5 +1,5 @@
 -- What word commands say. The text is without its star.
-use Rattle.std.specs.Prelude.{ℕ, ◌+◌, ◌-◌, ◌*◌, List, [], ◌∷◌, take, drop, codes, Option, Some, None, is_some, if◌then◌else◌, ◌||◌, ◌==◌, nat_lt, nat_le}
+use Rattle.std.specs.Prelude.{ℕ, ◌+◌, ◌-◌, ◌*◌, List, [], ◌∷◌, take, drop, codes, Option, Some, None, is_some, true, false, if◌then◌else◌, ◌||◌, ◌==◌, nat_lt, nat_le}
 use Rattle.std.specs.Char.{is_ascii_digit}
 use Rattle.std.specs.Option.{option_or}
 use Rattle.std.specs.Str.{bytes_eq}
@@ -97,10 +97,13 @@ mode_of code =
 -- a G code that stands alone
 abbrev pub lone_code : ℕ → Option Said
 lone_code code =
-    if (code == 36) || (code == 37) then Some says.NotBuiltYet
-    else if code == 70 then Some (says.Unit units.Inch)
-    else if code == 71 then Some (says.Unit units.Mm)
-    else if (code == 74) || (code == 75) || (code == 90) then Some says.Ignored
+    if code == 36 then Some says.BeginRegion
+    else if code == 37 then Some says.EndRegion
+    else if code == 70 then Some (says.Unit units.Inch false)
+    else if code == 71 then Some (says.Unit units.Mm false)
+    else if code == 74 then Some (says.Quadrants false)
+    else if code == 75 then Some (says.Quadrants true)
+    else if code == 90 then Some says.Ignored
     else None
 
 -- with nothing behind it

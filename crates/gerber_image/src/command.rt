@@ -99,8 +99,10 @@ pub enum Said {
     Format {
         format: Format,
     },
+    /// Whether it stands between percent signs, as MO does and G70 and G71 don't.
     Unit {
         unit: Unit,
+        in_block: bool,
     },
     Polarity {
         dark: bool,
@@ -115,6 +117,12 @@ pub enum Said {
     Mode {
         mode: Mode,
     },
+    /// Whether arcs may be longer than a quarter.
+    Quadrants {
+        all: bool,
+    },
+    BeginRegion,
+    EndRegion,
     Define {
         number: u32,
         template: Template,
@@ -135,8 +143,10 @@ pub enum Said {
     Operate {
         operation: Operation,
     },
-    /// No effect.
+    /// No effect, also in a region.
     Ignored,
+    /// A setting between percent signs that holds without it.
+    Restated,
     NotBuiltYet,
     Unsupported,
     End,
@@ -147,9 +157,10 @@ pub enum Said {
 pub enum GerberKind {
     /// No command, or one that may not stand here.
     Syntax,
-    /// A macro, a template other than C and O, a region, an arc or a turn by a part of a quarter.
+    /// A macro, or a template other than C, R, O and P.
     NotBuiltYet,
-    /// A command that is left out, or a stroke with an aperture that makes none.
+    /// A command that is left out, an aperture with a rectangular hole, a stroke with an aperture that makes
+    /// none, or an arc where arcs may not be longer than a quarter.
     Unsupported,
     /// A coordinate before the format.
     NoFormat,
@@ -157,12 +168,18 @@ pub enum GerberKind {
     NoUnit,
     /// An aperture that isn't defined, or none selected.
     NoAperture,
+    /// In a region a command that it may not hold.
+    OpenRegion,
     /// The end with an open repeat.
     OpenRepeat,
+    /// An arc whose ends aren't equally far from its centre.
+    OpenArc,
     /// A point past 500,000,000 nm, or a size past 1,000,000,000 nm.
     OutOfRange,
     /// More than 2^20 objects.
     TooManyObjects,
+    /// More than 2^22 vertices of areas.
+    TooManyVertices,
     /// The bytes end before the command that ends a file.
     NoEnd,
     /// The memory doesn't suffice.
@@ -187,9 +204,15 @@ impl fmt::Display for GerberKind {
             GerberKind::NoFormat => write!(f, "a coordinate before the format"),
             GerberKind::NoUnit => write!(f, "a length before the unit"),
             GerberKind::NoAperture => write!(f, "no such aperture, or none selected"),
+            GerberKind::OpenRegion => write!(f, "a command that a region may not hold"),
             GerberKind::OpenRepeat => write!(f, "the end with an open repeat"),
+            GerberKind::OpenArc => write!(
+                f,
+                "an arc whose ends aren't equally far from its centre"
+            ),
             GerberKind::OutOfRange => write!(f, "a point or a size past the range"),
             GerberKind::TooManyObjects => write!(f, "more than 1048576 objects"),
+            GerberKind::TooManyVertices => write!(f, "more than 4194304 vertices"),
             GerberKind::NoEnd => write!(f, "the file ends too early"),
             GerberKind::Memory => write!(f, "out of memory"),
         }

@@ -6,7 +6,7 @@ ghost use Rattle.std.specs.Str.{bytes_eq};
 ghost use Rattle.fixed_num.specs.Angles.{in_turn as in_turn_of};
 ghost use Rattle.apertures.specs.Texts.{IsSize};
 ghost use Rattle.gerber_image.specs.Fits.{IsSaid};
-ghost use Rattle.gerber_image.specs.Extended.{counts_of, is_count as is_count_in, is_capital_or_digit as is_capital_or_digit_in, is_other_letter as is_other_letter_in, is_other_format as is_other_format_in, known_format as known_format_of, format_in, format_of, unit_of, polarity_of, mirror_of, quarters as quarters_of, rotation_of, scale_of, count_in as count_in_of, count_of, step_of, open_of, repeat_in, repeat_of, defined_in, definition_of, macro_of, is_plain as is_plain_in, pair_of, no_rotation_of, old_of, begins as begins_in, is_note as is_note_in, note_of, setting_of, plain_of, extended_of};
+ghost use Rattle.gerber_image.specs.Extended.{counts_of, is_count as is_count_in, is_capital_or_digit as is_capital_or_digit_in, is_other_letter as is_other_letter_in, is_other_format as is_other_format_in, known_format as known_format_of, format_in, format_of, unit_of, polarity_of, mirror_of, rotation_of, scale_of, count_in as count_in_of, count_of, step_of, open_of, repeat_in, repeat_of, defined_in, definition_of, macro_of, is_plain as is_plain_in, pair_of, no_rotation_of, old_of, begins as begins_in, is_note as is_note_in, note_of, setting_of, plain_of, extended_of};
 
 use crate::command::{Format, Said, Template};
 use crate::numerals::{digits_before, number};
@@ -128,10 +128,16 @@ fn unit(text: &[u8]) -> Option<Said>
     ensures fits { IfSome result IsSaid }
 {
     if text == b"MOMM".as_slice() {
-        return Some(Said::Unit { unit: Unit::Mm });
+        return Some(Said::Unit {
+            unit: Unit::Mm,
+            in_block: true,
+        });
     }
     if text == b"MOIN".as_slice() {
-        return Some(Said::Unit { unit: Unit::Inch });
+        return Some(Said::Unit {
+            unit: Unit::Inch,
+            in_block: true,
+        });
     }
     None
 }
@@ -186,18 +192,6 @@ fn in_turn(angle: i128) -> u32
     angle.rem_euclid(360_000_000) as u32
 }
 
-// An angle of whole quarters.
-fn quarters(angle: u32) -> Said
-    ensures value { result ≡ quarters_of angle }
-    ensures fits { IsSaid result }
-{
-    if angle % 90_000_000 == 0 {
-        Said::Rotation { angle }
-    } else {
-        Said::NotBuiltYet
-    }
-}
-
 // LR and an angle in degrees.
 #[tactic(auto, unfolding(crate::specs::Extended::rotation_of))]
 fn rotation(text: &[u8]) -> Option<Said>
@@ -206,7 +200,9 @@ fn rotation(text: &[u8]) -> Option<Said>
 {
     let rest = after(text, b"LR")?;
     match cut_decimal(rest, 6) {
-        Ok(angle) => Some(quarters(in_turn(angle))),
+        Ok(angle) => Some(Said::Rotation {
+            angle: in_turn(angle),
+        }),
         Err(_) => None,
     }
 }
@@ -219,7 +215,7 @@ fn scale(text: &[u8]) -> Option<Said>
 {
     let rest = after(text, b"LS")?;
     match read_decimal(rest, 0) {
-        Ok(1) => Some(Said::Ignored),
+        Ok(1) => Some(Said::Restated),
         Ok(_) | Err(NumError::TooFine { .. }) => Some(Said::Unsupported),
         Err(_) => None,
     }
@@ -377,7 +373,7 @@ fn pair(start: &[u8], digit: u8, text: &[u8]) -> Option<Said>
     let rest = after(text, start)?;
     let (a, b) = cut(rest, b'B')?;
     if is_plain(digit, a) && is_plain(digit, b) {
-        Some(Said::Ignored)
+        Some(Said::Restated)
     } else {
         None
     }
@@ -391,7 +387,7 @@ fn no_rotation(text: &[u8]) -> Option<Said>
 {
     let rest = after(text, b"IR")?;
     if is_plain(b'0', rest) {
-        Some(Said::Ignored)
+        Some(Said::Restated)
     } else {
         None
     }
@@ -403,7 +399,7 @@ fn old(text: &[u8]) -> Option<Said>
     ensures fits { IfSome result IsSaid }
 {
     if text == b"IPPOS".as_slice() || text == b"ASAXBY".as_slice() {
-        return Some(Said::Ignored);
+        return Some(Said::Restated);
     }
     if let Some(said) = no_rotation(text) {
         return Some(said);

@@ -1,9 +1,10 @@
 // Coordinates in nanometres, and tests of two facts.
-ghost use Rattle.std.specs.Prelude.{◌≡◌, ◌<◌, ◌≤◌, ◌^◌, ◌*◌, pos, MatchOption, Some, None, ◌&&◌, ◌||◌, unwrap_or, ⊤, true, false};
+ghost use Rattle.std.specs.Prelude.{◌≡◌, ◌<◌, ◌≤◌, ◌^◌, ◌*◌, pos, MatchOption, Some, None, ◌&&◌, ◌||◌, unwrap_or, unsigned_abs, IfSome, ⊤, true, false};
 ghost use Rattle.apertures.specs.Texts.{IsSize};
 ghost use Rattle.board_base.specs.Places.{IsPlace};
 ghost use Rattle.apertures.specs.Defined.{at};
-ghost use Rattle.gerber_image.specs.Checks.{is_far};
+ghost use Rattle.gerber_image.specs.Checks.{is_far as is_far_of, is_long};
+ghost use Rattle.gerber_image.specs.Fits.{IsWritten};
 ghost use Rattle.gerber_image.specs.Numbers.{unit_size as unit_size_of, nanometres as nanometres_of};
 ghost use Rattle.gerber_image.specs.InForce.{said_place, step_length as step_length_of};
 
@@ -49,7 +50,18 @@ fn nanometres(decimals: u32, unit: Unit, value: i64) -> i128
     round_div(value as i128 * unit_size(unit), power(decimals))
 }
 
-/// Where digits lead by the format and the unit, in nanometres; without one of them it is `last`.
+// Where digits lead by a format and a unit, in nanometres: no further than 25,400,000,000,000 where the format has them.
+fn said(format: Format, unit: Unit, digits: Digits) -> i128
+    requires whole { format.whole ≤ 6 }
+    requires decimals { format.decimals ≤ 6 }
+    ensures value { result ≡ nanometres_of format.decimals unit digits.value }
+    ensures size { IsWritten digits → is_long (Some format) (Some digits) ≡ false → unsigned_abs result ≤ 25400000000000 }
+{
+    nanometres(format.decimals, unit, digits.value)
+}
+
+/// Where digits lead by the format and the unit, in nanometres; without one of them it is `last`. Digits that the format
+/// has lead no further than 25,400,000,000,000 nm.
 pub fn coordinate(
     format: Option<Format>,
     unit: Option<Unit>,
@@ -57,14 +69,39 @@ pub fn coordinate(
     last: i64,
 ) -> i128
     requires { MatchOption format ⊤ (λ f. (f.whole ≤ 6) × (f.decimals ≤ 6)) }
-    ensures { result ≡ unwrap_or (said_place format unit digits) last }
+    ensures value { result ≡ unwrap_or (said_place format unit digits) last }
+    ensures size { IfSome digits IsWritten → is_long format digits ≡ false → unsigned_abs last ≤ 500000000 → unsigned_abs result ≤ 25400000000000 }
 {
     match (format, unit, digits) {
-        (Some(format), Some(unit), Some(digits)) => {
-            nanometres(format.decimals, unit, digits.value)
-        }
+        (Some(format), Some(unit), Some(digits)) => said(format, unit, digits),
         _ => last as i128,
     }
+}
+
+// A length that fits.
+fn short(v: i128) -> i64
+    requires { unsigned_abs v ≤ 25400000000000 }
+    ensures value { result ≡ v }
+    ensures size { unsigned_abs result ≤ 25400000000000 }
+{
+    v as i64
+}
+
+/// The same of digits that the format has, from a place or from nothing.
+pub fn short_coordinate(
+    format: Option<Format>,
+    unit: Option<Unit>,
+    digits: Option<Digits>,
+    last: i64,
+) -> i64
+    requires format { MatchOption format ⊤ (λ f. (f.whole ≤ 6) × (f.decimals ≤ 6)) }
+    requires written { IfSome digits IsWritten }
+    requires few { is_long format digits ≡ false }
+    requires last { unsigned_abs last ≤ 500000000 }
+    ensures value { result ≡ unwrap_or (said_place format unit digits) last }
+    ensures size { unsigned_abs result ≤ 25400000000000 }
+{
+    short(coordinate(format, unit, digits, last))
 }
 
 /// A step in 10^-9 of the unit, in whole nanometres.
@@ -80,9 +117,17 @@ pub fn step_length(unit: Unit, step: u128) -> u128
 /// The point with these coordinates, where they are in the range.
 #[tactic(auto, using(crate::proofs::PlaceLaws::point_law))]
 pub fn point(x: i128, y: i128) -> Option<Point>
-    ensures { MatchOption result (is_far (at x y) ≡ true) (λ p. (is_far (at x y) ≡ false) × (p ≡ at x y) × IsPlace p) }
+    ensures { MatchOption result (is_far_of (at x y) ≡ true) (λ p. (is_far_of (at x y) ≡ false) × (p ≡ at x y) × IsPlace p) }
 {
     point_at(x, y)
+}
+
+/// Whether a point is past the range.
+#[tactic(auto, unfolding(fixed_num::specs::Angles::in_range))]
+pub fn is_far(p: Point) -> bool
+    ensures { result ≡ is_far_of p }
+{
+    !(p.x.unsigned_abs() <= 500_000_000 && p.y.unsigned_abs() <= 500_000_000)
 }
 
 /// Both facts.

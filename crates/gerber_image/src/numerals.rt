@@ -1,11 +1,12 @@
 // Digits of numbers and coordinates.
-ghost use Rattle.std.specs.Prelude.{◌≡◌, ◌<◌, ◌≤◌, ◌^◌, ◌*◌, length, MatchOption, Some, None, true, not, ◌||◌, ◌==◌, pos, neg_ℤ, IfSome};
+ghost use Rattle.std.specs.Prelude.{◌≡◌, ◌<◌, ◌≤◌, ◌^◌, ◌*◌, length, MatchOption, Some, None, true, not, ◌||◌, ◌==◌, pos, neg_ℤ, unsigned_abs, IfSome};
 ghost use Rattle.std.specs.Char.{is_ascii_digit};
 ghost use Rattle.std.specs.List.{list_all, position};
 ghost use Rattle.std.specs.Str.Parse.{AllDigits, digits_value, digits_value_after};
 ghost use Rattle.fixed_num.specs.Decimal.{signed};
 ghost use Rattle.fixed_num.specs.Spelled.{sign_of, behind_sign as behind_sign_in};
 ghost use Rattle.gerber_image.specs.Numerals.{is_numeral as is_numeral_in, short_value as short_value_of, number_of, digits_of, digits_before as digits_before_in, is_signed_digit as is_signed_digit_in, signed_before as signed_before_in};
+ghost use Rattle.gerber_image.specs.Fits.{IsWritten};
 
 use crate::command::Digits;
 
@@ -30,6 +31,7 @@ fn value_of(digits: &[u8]) -> u64
     requires few { length digits.now ≤ 18 }
     ensures value { result ≡ digits_value 10 digits.now }
     ensures bound { result < 10 ^ 18 }
+    ensures written { result < 10 ^ length digits.now }
 {
     let mut n: u64 = 0;
     for b in digits {
@@ -44,6 +46,7 @@ fn short_value(digits: &[u8]) -> u64
     requires { AllDigits 10 digits.now }
     ensures value { result ≡ short_value_of digits.now }
     ensures bound { result < 10 ^ 18 }
+    ensures written { result < 10 ^ length digits.now }
 {
     if digits.len() <= 18 {
         value_of(digits)
@@ -70,7 +73,8 @@ pub fn number(text: &[u8]) -> Option<u64>
 // A number with the sign of a text.
 fn with_sign(text: &[u8], n: u64) -> i64
     requires { n < 10 ^ 18 }
-    ensures { result ≡ signed (sign_of text.now) n }
+    ensures value { result ≡ signed (sign_of text.now) n }
+    ensures size { unsigned_abs result ≡ n }
 {
     match text {
         [b'-', ..] => -(n as i64),
@@ -92,7 +96,8 @@ fn behind_sign(text: &[u8]) -> &[u8]
 /// The digits of a coordinate: an optional sign, and at least one digit.
 #[tactic(auto, unfolding(crate::specs::Numerals::digits_of))]
 pub fn digits(text: &[u8]) -> Option<Digits>
-    ensures { result ≡ digits_of text.now }
+    ensures value { result ≡ digits_of text.now }
+    ensures written { IfSome result IsWritten }
 {
     let rest = behind_sign(text);
     if !is_numeral(rest) {

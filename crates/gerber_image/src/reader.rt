@@ -1,10 +1,9 @@
 // The image of a file.
 ghost use Rattle.std.specs.Prelude.{◌≡◌, ◌≤◌, IfOk, IfErr, IfSome, Ok, Err, Some, None, not};
-ghost use Rattle.std.specs.List.{All, filter};
+ghost use Rattle.std.specs.List.{filter};
 ghost use Rattle.gerber_lexer.specs.Cut.{is_break};
 ghost use Rattle.gerber_image.specs.Checks.{is_end as is_end_of};
 ghost use Rattle.gerber_image.specs.Fits.{IsSaid};
-ghost use Rattle.gerber_image.specs.Objects.{IsObject};
 ghost use Rattle.gerber_image.specs.State.{Steps, IsReady, kept};
 ghost use Rattle.gerber_image.specs.Answer.{Refuses};
 ghost use Rattle.gerber_image.specs.Gerber.{said_of, without_breaks as without_breaks_of, StandsFor};
@@ -66,7 +65,6 @@ fn said(alloc: Global, text: &[u8], is_extended: bool) -> Result<Option<Said>, A
 fn read_commands(alloc: Global, bytes: &[u8]) -> Result<Vec<Painted>, GerberError>
     ensures image { IfOk result (λ v. StandsFor bytes.now (Ok v.items)) }
     ensures refusal { IfErr result (Refuses bytes.now) }
-    ensures objects { IfOk result (λ v. All IsObject v.items) }
 {
     let mut state = State::new(alloc);
     let mut at = 0;
@@ -88,7 +86,7 @@ fn read_commands(alloc: Global, bytes: &[u8]) -> Result<Vec<Painted>, GerberErro
             Err(Stop::Memory) => return Err(refusal(GerberKind::Memory, place.from)),
         }
         if is_end(&said) {
-            return Ok(state.painted);
+            return Ok(state.painted.into_all());
         }
         at = place.next;
         inside = place.inside;
@@ -107,7 +105,6 @@ pub fn read_image(alloc: Global, bytes: &[u8]) -> Result<Vec<Painted>, GerberErr
     ensures image { IfOk result (λ v. StandsFor bytes.now (Ok v.items)) }
     ensures refusal { IfErr result (Refuses bytes.now) }
     ensures outcome { AnswersOutcome (λ v. v.items) bytes.now result }
-    ensures objects { IfOk result (λ v. All IsObject v.items) }
 {
     read_commands(alloc, bytes)
 }

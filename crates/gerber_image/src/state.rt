@@ -5,23 +5,21 @@ ghost use Rattle.std.specs.Option.{option_or};
 ghost use Rattle.apertures.specs.Texts.{IsSize};
 ghost use Rattle.gerber_image.specs.InForce.{opened as opened_of, defined_under};
 ghost use Rattle.gerber_image.specs.Image.{figure_of, copies};
-ghost use Rattle.gerber_image.specs.Checks.{same_format, same_unit, is_outside, fault_of, Held};
+ghost use Rattle.gerber_image.specs.Checks.{same_format, same_unit, is_outside, fault_of, excess_of, Held};
 ghost use Rattle.gerber_image.specs.Fits.{IsSaid};
 ghost use Rattle.gerber_image.specs.State.{kept, nothing, listed, IsReady, IsRepeat, block_fault, Stops, Steps};
 
 use crate::command::{Act, Format, GerberKind, Mode, Repeat, Said, Template};
-use crate::numbers::step_length;
-use crate::repeat::{copies_leave, count_copies, paint_copies};
+use crate::contour::Contour;
+use crate::numbers::{both, step_length};
+use crate::objects::Objects;
+use crate::repeat::{copies_excess, copies_leave, paint_copies};
 use apertures::{Aperture, ApertureError, Mirror, Unit, define};
 use board_base::Point;
-use shape_parts::Painted;
 use std::alloc::{AllocError, AllocFailed, Global};
 use std::collections::BTreeMap;
 
-/// The most objects of an image.
-pub const MOST_OBJECTS: usize = 1_048_576;
-
-/// What is in force, the block of the open repeat, and what is painted.
+/// What is in force, the contours of the open region, the block of the open repeat, and what is painted.
 #[derive(Drop)]
 pub struct State {
     pub format: Option<Format>,
@@ -30,13 +28,17 @@ pub struct State {
     pub mirror: Mirror,
     pub angle: u32,
     pub mode: Mode,
+    pub quadrants: bool,
+    pub region: bool,
     pub selected: Option<u32>,
     pub apertures: BTreeMap<u32, Aperture, Global>,
     pub here: Point,
     pub act: Option<Act>,
     pub repeat: Option<Repeat>,
-    pub block: Vec<Painted>,
-    pub painted: Vec<Painted>,
+    pub contours: Vec<Contour>,
+    pub contour: Contour,
+    pub block: Objects,
+    pub painted: Objects,
 }
 
 /// What stops the reader.
@@ -135,13 +137,17 @@ impl State {
             mirror: Mirror::Keep,
             angle: 0,
             mode: Mode::Linear,
+            quadrants: false,
+            region: false,
             selected: None,
             apertures: BTreeMap::new(alloc),
             here: Point { x: 0, y: 0 },
             act: None,
             repeat: None,
-            block: Vec::new(alloc),
-            painted: Vec::new(alloc),
+            contours: Vec::new(alloc),
+            contour: Contour::empty(alloc),
+            block: Objects::empty(alloc),
+            painted: Objects::empty(alloc),
         }
     }
 
@@ -153,17 +159,23 @@ impl State {
         if !is_same_format(format, self.format) {
             return Err(Stop::Fault(GerberKind::Syntax));
         }
+        if self.region {
+            return Err(Stop::Fault(GerberKind::OpenRegion));
+        }
         self.format = Some(format);
         Ok(())
     }
 
     // MO, G70 and G71
-    fn set_unit(&mut self, unit: Unit) -> Result<(), Stop>
+    fn set_unit(&mut self, unit: Unit, in_block: bool) -> Result<(), Stop>
         requires { IsReady (kept self.old) }
-        ensures { Steps (kept self.old) (Said.Unit unit) result (kept self.new) }
+        ensures { Steps (kept self.old) (Said.Unit unit in_block) result (kept self.new) }
     {
         if !is_same_unit(unit, self.unit) {
             return Err(Stop::Fault(GerberKind::Syntax));
+        }
+        if both(self.region, in_block) {
+            return Err(Stop::Fault(GerberKind::OpenRegion));
         }
         self.unit = Some(unit);
         Ok(())
@@ -174,6 +186,9 @@ impl State {
         requires { IsReady (kept self.old) }
         ensures { Steps (kept self.old) (Said.Polarity dark) result (kept self.new) }
     {
+        if self.region {
+            return Err(Stop::Fault(GerberKind::OpenRegion));
+        }
         self.dark = dark;
         Ok(())
     }
@@ -183,6 +198,9 @@ impl State {
         requires { IsReady (kept self.old) }
         ensures { Steps (kept self.old) (Said.Mirror mirror) result (kept self.new) }
     {
+        if self.region {
+            return Err(Stop::Fault(GerberKind::OpenRegion));
+        }
         self.mirror = mirror;
         Ok(())
     }
@@ -192,6 +210,9 @@ impl State {
         requires { IsReady (kept self.old) }
         ensures { Steps (kept self.old) (Said.Rotation angle) result (kept self.new) }
     {
+        if self.region {
+            return Err(Stop::Fault(GerberKind::OpenRegion));
+        }
         self.angle = angle;
         Ok(())
     }
@@ -202,6 +223,26 @@ impl State {
         ensures { Steps (kept self.old) (Said.Mode mode) result (kept self.new) }
     {
         self.mode = mode;
+        Ok(())
+    }
+
+    // G74 and G75
+    fn set_quadrants(&mut self, all: bool) -> Result<(), Stop>
+        requires { IsReady (kept self.old) }
+        ensures { Steps (kept self.old) (Said.Quadrants all) result (kept self.new) }
+    {
+        self.quadrants = all;
+        Ok(())
+    }
+
+    // A setting that holds without it.
+    fn restate(&self) -> Result<(), Stop>
+        requires { IsReady (kept self.now) }
+        ensures { Steps (kept self.now) Said.Restated result (kept self.now) }
+    {
+        if self.region {
+            return Err(Stop::Fault(GerberKind::OpenRegion));
+        }
         Ok(())
     }
 
@@ -244,14 +285,17 @@ impl State {
             (Stops (fault_of (kept self.now) (Said.Define number template.now))) }
     {
         let made = define(alloc, template.text(), unit_or_mm(self.unit));
-        match (made, self.unit) {
-            (Err(ApertureError::Memory), _) => Err(Stop::Memory),
-            (Err(ApertureError::Syntax), _) => Err(Stop::Fault(GerberKind::Syntax)),
-            (Err(ApertureError::NotBuiltYet), _) => Err(Stop::Fault(GerberKind::NotBuiltYet)),
-            (Err(ApertureError::Unsupported), _) => Err(Stop::Fault(GerberKind::Unsupported)),
-            (_, None) => Err(Stop::Fault(GerberKind::NoUnit)),
-            (Err(ApertureError::OutOfRange), Some(_)) => Err(Stop::Fault(GerberKind::OutOfRange)),
-            (Ok(aperture), Some(_)) => Ok(aperture),
+        match (made, self.unit, self.region) {
+            (Err(ApertureError::Memory), _, _) => Err(Stop::Memory),
+            (Err(ApertureError::Syntax), _, _) => Err(Stop::Fault(GerberKind::Syntax)),
+            (Err(ApertureError::NotBuiltYet), _, _) => Err(Stop::Fault(GerberKind::NotBuiltYet)),
+            (Err(ApertureError::Unsupported), _, _) => Err(Stop::Fault(GerberKind::Unsupported)),
+            (_, None, _) => Err(Stop::Fault(GerberKind::NoUnit)),
+            (_, Some(_), true) => Err(Stop::Fault(GerberKind::OpenRegion)),
+            (Err(ApertureError::OutOfRange), Some(_), false) => {
+                Err(Stop::Fault(GerberKind::OutOfRange))
+            }
+            (Ok(aperture), Some(_), false) => Ok(aperture),
         }
     }
 
@@ -270,22 +314,21 @@ impl State {
         requires { IsReady (kept self.old) }
         ensures others { self.new ≡ record self.old { painted = self.new.painted } }
         ensures ok { OnOk result
-            ((self.new.painted.items ≡ self.old.painted.items ++ copies self.old.repeat self.old.block.items)
-            × (list_any is_outside (copies self.old.repeat self.old.block.items) ≡ false)
-            × (length self.new.painted.items ≤ 2 ^ 20)) }
+            ((self.new.painted ≡ self.old.painted ++ copies self.old.repeat self.old.block)
+            × (list_any is_outside (copies self.old.repeat self.old.block) ≡ false)
+            × (excess_of self.new.painted ≡ None)) }
         ensures refused { IfErr result (Stops (block_fault (kept self.old))) }
     {
         let Some(repeat) = self.repeat else {
             return Ok(());
         };
-        if copies_leave(repeat, &self.block) {
+        if copies_leave(repeat, self.block.all()) {
             return Err(Stop::Fault(GerberKind::OutOfRange));
         }
-        let count = self.painted.len() as u128 + count_copies(repeat, &self.block);
-        if 1_048_576 < count {
-            return Err(Stop::Fault(GerberKind::TooManyObjects));
+        if let Some(kind) = copies_excess(&self.painted, repeat, &self.block) {
+            return Err(Stop::Fault(kind));
         }
-        paint_copies(alloc, &mut self.painted, repeat, &self.block)?;
+        paint_copies(alloc, &mut self.painted, repeat, self.block.all())?;
         Ok(())
     }
 
@@ -296,6 +339,9 @@ impl State {
     {
         if self.repeat.is_none() {
             return Err(Stop::Fault(GerberKind::Syntax));
+        }
+        if self.region {
+            return Err(Stop::Fault(GerberKind::OpenRegion));
         }
         self.paint_block(alloc)?;
         self.block.clear();
@@ -319,6 +365,9 @@ impl State {
         let Some(unit) = self.unit else {
             return Err(Stop::Fault(GerberKind::NoUnit));
         };
+        if self.region {
+            return Err(Stop::Fault(GerberKind::OpenRegion));
+        }
         self.paint_block(alloc)?;
         self.block.clear();
         self.repeat = opened(unit, columns, rows, dx, dy);
@@ -330,6 +379,9 @@ impl State {
         requires { IsReady (kept self.now) }
         ensures { Steps (kept self.now) Said.End result (kept self.now) }
     {
+        if self.region {
+            return Err(Stop::Fault(GerberKind::OpenRegion));
+        }
         if self.repeat.is_some() {
             return Err(Stop::Fault(GerberKind::OpenRepeat));
         }
@@ -345,11 +397,14 @@ impl State {
     {
         match said {
             Said::Format { format } => self.set_format(*format),
-            Said::Unit { unit } => self.set_unit(*unit),
+            Said::Unit { unit, in_block } => self.set_unit(*unit, *in_block),
             Said::Polarity { dark } => self.set_dark(*dark),
             Said::Mirror { mirror } => self.set_mirror(*mirror),
             Said::Rotation { angle } => self.set_angle(*angle),
             Said::Mode { mode } => self.set_mode(*mode),
+            Said::Quadrants { all } => self.set_quadrants(*all),
+            Said::BeginRegion => self.begin_region(alloc),
+            Said::EndRegion => self.end_region(alloc),
             Said::Define { number, template } => self.define(alloc, *number, template),
             Said::Select { number } => self.select(*number),
             Said::Open {
@@ -361,6 +416,7 @@ impl State {
             Said::Close => self.close(alloc),
             Said::Operate { operation } => self.operate(alloc, *operation),
             Said::Ignored => Ok(()),
+            Said::Restated => self.restate(),
             Said::NotBuiltYet => Err(Stop::Fault(GerberKind::NotBuiltYet)),
             Said::Unsupported => Err(Stop::Fault(GerberKind::Unsupported)),
             Said::End => self.end(),

@@ -2,7 +2,7 @@
 ghost use Rattle.std.specs.Prelude.{◌≡◌, ◌<◌, ◌≤◌, ◌^◌, ◌||◌, MatchOption, IfSome, Some, None};
 ghost use Rattle.std.specs.Option.{option_or};
 ghost use Rattle.std.specs.Str.{bytes_eq};
-ghost use Rattle.gerber_image.specs.Fits.{IsSaid};
+ghost use Rattle.gerber_image.specs.Fits.{IsSaid, IsWritten, AreWritten};
 ghost use Rattle.gerber_image.specs.Words.{code_of, code_from as code_from_of, in_reach as in_reach_of, selection_of, act_word as act_word_of, act_of, field as field_of, with_word as with_word_of, operation_of, with_mode as with_mode_of, mode_of, lone_code as lone_code_of, alone as alone_of, behind_d as behind_d_of, other_code as other_code_of, by_mode as by_mode_of, general_of, word_of};
 
 use crate::command::{Act, Digits, Mode, Operation, Said};
@@ -109,7 +109,8 @@ fn act(text: &[u8]) -> Option<Option<Act>>
 
 // The field with this letter, if there is one, and what stands behind it.
 fn field<'a>(text: &'a [u8], letter: &[u8]) -> Option<(Option<Digits>, &'a [u8])>
-    ensures { MatchOption result (field_of letter.now text.now ≡ None)
+    ensures written { IfSome result (λ r. IfSome r.0 IsWritten) }
+    ensures value { MatchOption result (field_of letter.now text.now ≡ None)
         (λ r. field_of letter.now text.now ≡ Some (r.0, r.1.now)) }
 {
     let Some(rest) = after(text, letter) else {
@@ -122,6 +123,7 @@ fn field<'a>(text: &'a [u8], letter: &[u8]) -> Option<(Option<Digits>, &'a [u8])
 
 // An operation with at least one word.
 fn with_word(operation: Operation) -> Option<Said>
+    requires { AreWritten operation }
     ensures value { result ≡ with_word_of operation }
     ensures fits { IfSome result IsSaid }
 {
@@ -187,10 +189,19 @@ fn lone_code(code: u8) -> Option<Said>
     ensures fits { IfSome result IsSaid }
 {
     match code {
-        36 | 37 => Some(Said::NotBuiltYet),
-        70 => Some(Said::Unit { unit: Unit::Inch }),
-        71 => Some(Said::Unit { unit: Unit::Mm }),
-        74 | 75 | 90 => Some(Said::Ignored),
+        36 => Some(Said::BeginRegion),
+        37 => Some(Said::EndRegion),
+        70 => Some(Said::Unit {
+            unit: Unit::Inch,
+            in_block: false,
+        }),
+        71 => Some(Said::Unit {
+            unit: Unit::Mm,
+            in_block: false,
+        }),
+        74 => Some(Said::Quadrants { all: false }),
+        75 => Some(Said::Quadrants { all: true }),
+        90 => Some(Said::Ignored),
         _ => None,
     }
 }

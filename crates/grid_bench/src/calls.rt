@@ -2,9 +2,7 @@
 ghost use Rattle.std.specs.Prelude.{◌≡◌};
 
 use crate::borders::is_border_above;
-use crate::pattern::is_timed_frame;
 use cell_grid::{Plane, Workbench, cell_at};
-use shape_parts::Painted;
 
 // The squared index distance above which a cell is allowed.
 const GUARD: u64 = 100;
@@ -18,7 +16,6 @@ pub enum Call {
     GetClearance,
     SetLabel,
     GetLabel,
-    Cover,
     Label,
     Clearance,
     Allowed,
@@ -28,14 +25,13 @@ pub enum Call {
 }
 
 /// All of them, in the order in which they run: the later ones go by what the earlier ones wrote.
-pub const CALLS: [Call; 13] = [
+pub const CALLS: [Call; 12] = [
     Call::Set,
     Call::Get,
     Call::SetClearance,
     Call::GetClearance,
     Call::SetLabel,
     Call::GetLabel,
-    Call::Cover,
     Call::Label,
     Call::Clearance,
     Call::Allowed,
@@ -54,7 +50,6 @@ impl Call {
             Call::GetClearance => "get_clearance",
             Call::SetLabel => "set_label",
             Call::GetLabel => "get_label",
-            Call::Cover => "cover",
             Call::Label => "label",
             Call::Clearance => "clearance",
             Call::Allowed => "allowed",
@@ -64,9 +59,9 @@ impl Call {
         }
     }
 
-    /// Runs it over the grid; the painted objects are for the call that covers it. Gives the sum of what
-    /// it read, the number of islands or the size of the contour, and 0 where it tells no number.
-    pub fn run(self, bench: &mut Workbench, painted: &Vec<Painted>) -> u64 {
+    /// Runs it over the grid. Gives the sum of what it read, the number of islands or the size of the contour, and 0
+    /// where it tells no number.
+    pub fn run(self, bench: &mut Workbench) -> u64 {
         match self {
             Call::Set => set_all(bench),
             Call::Get => get_all(bench),
@@ -74,7 +69,6 @@ impl Call {
             Call::GetClearance => add_clearances(bench),
             Call::SetLabel => set_all_labels(bench),
             Call::GetLabel => add_labels(bench),
-            Call::Cover => cover(bench, painted),
             Call::Label => label(bench),
             Call::Clearance => find_clearances(bench),
             Call::Allowed => allow(bench),
@@ -147,14 +141,6 @@ fn add_labels(bench: &Workbench) -> u64 {
         }
     }
     sum
-}
-
-// Covers the grid with the objects, where it has the frame of the pattern.
-fn cover(bench: &mut Workbench, painted: &Vec<Painted>) -> u64 {
-    if is_timed_frame(bench.frame()) {
-        copper_cover::cover(bench, painted);
-    }
-    0
 }
 
 // Numbers the islands, and gives their count, or 0 where there are too many.

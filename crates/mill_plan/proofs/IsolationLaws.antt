@@ -1,13 +1,11 @@
 -- The isolation of a side from what its grid tells.
-use Rattle.std.proofs.Common.{◌≡◌, ◌≢◌, ℕ, ◌<◌, ◌≤◌, Bool, true, List, length, Result, Ok, Err, refl, sym, ap, subst, ◌∙◌}
-use Rattle.std.specs.List.{All}
+use Rattle.std.proofs.Common.{◌≡◌, ℕ, Bool, List, length, Result, Ok, Err, sym, subst}
 use Rattle.board_base.specs.declared.places.Cell.{Cell}
 use Rattle.board_base.specs.declared.places.Move.{Move}
 use Rattle.board_base.specs.Lattice.{IsHalfDiagonal, half_diagonal_of}
 use Rattle.board_base.specs.Contour.{IsContour}
-use Rattle.cell_grid.specs.Groups.{AreJoined, IsListedPair}
 use Rattle.cell_grid.specs.Islands.{AreMoreIslands}
-use Rattle.cell_grid.specs.Sweep.{IsSwept, IsUnswept}
+use Rattle.cell_grid.specs.Sweep.{IsUnswept}
 use Rattle.cell_grid.specs.Cells.{in_plane}
 use Rattle.cell_grid.specs.Grid.{Grid}
 use Rattle.separation_laws.specs.Reached.{ScaledSweep}

@@ -1,5 +1,5 @@
 -- What the program does to the copper.
-use Rattle.std.proofs.Common.{◌≡◌, ◌↔◌, ℤ, pos, neg_ℤ, ◌-ℤ◌, ◌*ℤ◌, ◌≤ℤ◌, ◌<ℤ◌, Bool, true, unsigned_abs, ap, ◌∙◌, ◌+ℤ◌, inl, List, [], ◌∷◌, map, refl, sym, subst, arith}
+use Rattle.std.proofs.Common.{◌≡◌, ◌↔◌, ℤ, pos, neg_ℤ, ◌-ℤ◌, ◌*ℤ◌, ◌≤ℤ◌, ◌<ℤ◌, true, unsigned_abs, ap, ◌∙◌, ◌+ℤ◌, inl, List, [], ◌∷◌, map, refl, sym, subst, arith}
 use Rattle.std.specs.List.{Contains}
 use Rattle.std.proofs.lemmas.List.Elements.{All-contains}
 use Rattle.std.specs.Int.{int_div_euclid}
@@ -17,7 +17,7 @@ use Rattle.board_base.specs.Lattice.{IsHalfDiagonal, centre_of, cell_of, half_di
 use Rattle.board_base.specs.Near.{near_of}
 use Rattle.board_base.specs.Contour.{IsContour, guard_of, reach_of}
 use Rattle.shape_parts.specs.declared.shape.Painted.{Painted}
-use Rattle.shape_parts.specs.Cover.{is_dark, is_kept, CoverLaw}
+use Rattle.shape_parts.specs.Cover.{is_dark, CoverLaw}
 use Rattle.rs274_sim.specs.Cutter.{nanometre, scaled, under, width_of, IsLow, IsDeep, Sweeps}
 use Rattle.rs274_sim.specs.Runs.{RunsTo}
 use Rattle.mill_program.specs.Conditions.{IsProgram, IsRunnable}

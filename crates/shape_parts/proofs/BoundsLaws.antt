@@ -1,17 +1,11 @@
 -- The rectangle round a shape lies within a metre of the origin, and its ends are in their order.
-use Rattle.std.proofs.Common.{◌≡◌, ℤ, pos, negsuc, neg_ℤ, ◌+ℤ◌, ◌-ℤ◌, ◌≤ℤ◌, int_lt, Bool, true, false, cond, List, [], ◌∷◌, Option, Some, None, refl, arith}
-use Rattle.std.specs.List.{All, AllByRecursion, fold}
-use Rattle.std.specs.Int.{int_min, int_max, int_div_euclid}
-use Rattle.std.proofs.lemmas.List.Elements.{recursion_from_All}
+use Rattle.std.proofs.Common.{◌≡◌, ℤ, pos, neg_ℤ, ◌≤ℤ◌, int_lt, Bool, true, false, cond, refl, arith}
+use Rattle.std.specs.Int.{int_min, int_max}
 use borrow.Author.Differences.{ints}
 use Rattle.board_base.specs.declared.places.Point.{Point}
 use Rattle.board_base.specs.declared.places.Bounds.{Bounds}
-use Rattle.board_base.specs.Places.{IsPlace, IsWithin}
-use Rattle.shape_parts.specs.declared.shape.Part.{Part}
-use Rattle.shape_parts.specs.declared.shape.Part.TheVariants.{Disc, Capsule}
-use Rattle.shape_parts.specs.declared.shape.Piece.{Piece}
-use Rattle.shape_parts.specs.Parts.{IsWidth, IsPart, IsPiece}
-use Rattle.shape_parts.specs.Boxes.{half_up, around, hull, widened, part_box, piece_box, shape_box, IsBounds, AreBounds}
+use Rattle.board_base.specs.Places.{IsPlace}
+use Rattle.shape_parts.specs.Boxes.{around, hull, IsBounds}
 
 -- the lesser of two numbers is one of them, and no greater than either
 lesser : (P : ℤ → Type 0) (a b : ℤ) → P a → P b → P (int_min a b)
@@ -59,50 +53,14 @@ hull_bounds a b h k = record {
 }
 
 -- half of a width that is there
-record IsHalf (r : ℤ) : Type 0 where
+pub record IsHalf (r : ℤ) : Type 0 where
   pub low : pos 0 ≤ℤ r
   pub high : r ≤ℤ pos 500000000
 
-half_of : (d : ℤ) → IsWidth d → IsHalf (half_up d)
-unfolding half_up
-half_of d h = record { low = least d h.low; high = most d h.low h.high }
-  where
-    least : (d : ℤ) → pos 0 ≤ℤ d → pos 0 ≤ℤ int_div_euclid (d +ℤ pos 1) (pos 2)
-    least (pos n) h = omega (arith, ints)
-    least (negsuc n) h = absurd (omega (arith, ints, h))
-
-    most : (d : ℤ) → pos 0 ≤ℤ d → d ≤ℤ pos 1000000000 → int_div_euclid (d +ℤ pos 1) (pos 2) ≤ℤ pos 500000000
-    most (pos n) h k = omega (arith, ints)
-    most (negsuc n) h k = absurd (omega (arith, ints, h))
-
-around_bounds : (p : Point) (r : ℤ) → IsPlace p → IsHalf r → IsBounds (around p r)
+pub around_bounds : (p : Point) (r : ℤ) → IsPlace p → IsHalf r → IsBounds (around p r)
 unfolding around
 around_bounds p r h k = record {
   within = record { west = omega (arith, ints); south = omega (arith, ints); east = omega (arith, ints); north = omega (arith, ints) };
   across = omega (arith, ints);
   up = omega (arith, ints);
 }
-
-widened_bounds : (r : ℤ) (box : Option Bounds) (p : Point) → IsHalf r → AreBounds box → IsPlace p → AreBounds (widened r box p)
-widened_bounds r None p k h place = around_bounds p r place k
-widened_bounds r (Some b) p k h place = hull_bounds b (around p r) h (around_bounds p r place k)
-
-chosen : (t : Bool) (v w : Option Bounds) → AreBounds v → AreBounds w → AreBounds (cond t v w)
-chosen true v w h k = h
-chosen false v w h k = k
-
-part_bounds : (box : Option Bounds) (part : Part) → AreBounds box → IsPart part → AreBounds (part_box box part)
-part_bounds box (Disc c d) h fits =
-    chosen (int_lt (pos 0) d) (widened (half_up d) box c) box (widened_bounds (half_up d) box c (half_of d fits.1) h fits.0) h
-part_bounds box (Capsule a b d) h fits =
-    let half = half_of d fits.2 in
-    let first = widened_bounds (half_up d) box a half h fits.0 in
-    chosen (int_lt (pos 0) d) (widened (half_up d) (widened (half_up d) box a) b) box (widened_bounds (half_up d) (widened (half_up d) box a) b half first fits.1) h
-
-pieces_bounds : (pieces : List Piece) (box : Option Bounds) → AllByRecursion IsPiece pieces → AreBounds box → AreBounds (fold piece_box box pieces)
-pieces_bounds [] box fits h = h
-pieces_bounds (p ∷ pieces) box fits h =
-    pieces_bounds pieces (piece_box box p) fits.1 (chosen p.on (part_box box p.part) box (part_bounds box p.part h fits.0) h)
-
-pub shape_bounds : (pieces : List Piece) → All IsPiece pieces → AreBounds (shape_box pieces)
-shape_bounds pieces fits = pieces_bounds pieces None (recursion_from_All IsPiece pieces fits) tt

@@ -1,26 +1,23 @@
 -- a part that holds a point of a cell touches the cell, and a part that covers a cell holds its points
-use Rattle.std.proofs.Common.{◌≡◌, ℤ, pos, ◌+ℤ◌, ◌-ℤ◌, ◌*ℤ◌, ◌≤ℤ◌, int_lt, true, [], ◌∷◌, refl, sym, subst, arith}
+use Rattle.std.proofs.Common.{◌≡◌, ℤ, pos, ◌+ℤ◌, ◌-ℤ◌, ◌*ℤ◌, ◌≤ℤ◌, int_lt, Bool, true, false, not, List, [], ◌∷◌, refl, sym, subst, ◌∙◌, arith}
 use borrow.Author.Differences.{ints}
-use Rattle.number_laws.proofs.Ring.{Ex, var, add, sub, mul, ring}
-use Rattle.number_laws.proofs.Order.{mul_nonneg, le_by}
+use Rattle.number_laws.proofs.Ring.{Ex, var, num, add, sub, mul, ring}
+use Rattle.number_laws.proofs.Order.{mul_nonneg, le_by, sub_nonneg}
+use Rattle.number_laws.proofs.Tests.{by_bool}
 use Rattle.board_base.specs.declared.places.Point.{Point}
 use Rattle.board_base.specs.Near.{near_of}
 use Rattle.plane_geom.specs.NearStep.{length2}
 use Rattle.plane_geom.proofs.NearLaws.{near_step}
+use Rattle.poly_area.specs.Area.{area_holds, area_near}
+use Rattle.poly_area.specs.AreaLaw.{IsInSquare}
+use Rattle.poly_area.proofs.AreaLaws.{area_law_holds}
 use Rattle.shape_parts.specs.declared.shape.Part.{Part}
-use Rattle.shape_parts.specs.declared.shape.Part.TheVariants.{Disc, Capsule}
+use Rattle.shape_parts.specs.declared.shape.Part.TheVariants.{Disc, Capsule, Area}
 use Rattle.shape_parts.specs.Parts.{twice, grown, shrunk, part_holds, part_touches, part_covers}
-use Rattle.shape_parts.proofs.Standing.{both_true, first_true, second_true}
+use Rattle.shape_parts.proofs.Standing.{both_true, first_true, second_true, left_true, right_true}
 
 abbrev sq : Ex → Ex
 sq a = mul a a
-
--- q lies in the square of half side r round c
-pub record IsInSquare (c : Point) (r : ℤ) (q : Point) : Type 0 where
-  pub west : (c.x -ℤ r) ≤ℤ q.x
-  pub east : q.x ≤ℤ (c.x +ℤ r)
-  pub south : (c.y -ℤ r) ≤ℤ q.y
-  pub north : q.y ≤ℤ (c.y +ℤ r)
 
 -- the cell round c with half side k, and a reach h of at least its half diagonal
 pub record IsReach (c q : Point) (k h : ℤ) : Type 0 where
@@ -82,6 +79,29 @@ above : (h d : ℤ) → pos 0 ≤ℤ h → int_lt (twice h) d ≡ true → int_l
 unfolding twice
 above h d l e = sym (omega (arith, ints))
 
+-- an Area of which no edge is near the centre with 2 h holds all points of the cell or none
+same_side : (c q : Point) (k h : ℤ) (loops : List (List Point)) → IsReach c q k h → area_near c (twice h) loops ≡ false → area_holds q loops ≡ area_holds c loops
+unfolding twice
+same_side c q k h loops r far = area_law_holds c k (pos 2 *ℤ h) loops (reach k h r.wide) far q c r.square (record { west = low c.x k k_in; east = up c.x k k_in; south = low c.y k k_in; north = up c.y k k_in })
+  where
+    k_in : pos 0 ≤ℤ k
+    k_in = band c.x q.x k r.square.west r.square.east
+      where
+        band : (c q k : ℤ) → (c -ℤ k) ≤ℤ q → q ≤ℤ (c +ℤ k) → pos 0 ≤ℤ k
+        band c q k h l = omega (arith, ints)
+
+    low : (c k : ℤ) → pos 0 ≤ℤ k → (c -ℤ k) ≤ℤ c
+    low c k h = omega (arith, ints)
+
+    up : (c k : ℤ) → pos 0 ≤ℤ k → c ≤ℤ (c +ℤ k)
+    up c k h = omega (arith, ints)
+
+    reach : (k h : ℤ) → (pos 2 *ℤ (k *ℤ k)) ≤ℤ (h *ℤ h) → (pos 8 *ℤ (k *ℤ k)) ≤ℤ ((pos 2 *ℤ h) *ℤ (pos 2 *ℤ h))
+    reach k h w =
+        let K = var 0 in let H = var 1 in
+        le_by _ _ (pos 4 *ℤ (h *ℤ h -ℤ pos 2 *ℤ (k *ℤ k))) (mul_nonneg (pos 4) _ (omega (arith, ints)) (sub_nonneg _ _ w))
+        (ring (k ∷ h ∷ []) (sq (mul (num (pos 2)) H)) (add (mul (num (pos 8)) (sq K)) (mul (num (pos 4)) (sub (sq H) (mul (num (pos 2)) (sq K))))) refl)
+
 pub part_touched : (c q : Point) (k h : ℤ) (part : Part) → IsReach c q k h → part_holds q part ≡ true → part_touches c h part ≡ true
 part_touched c q k h (Disc a d) r e =
     let wide = first_true (int_lt (pos 0) d) (near_of q a a d) e in
@@ -89,6 +109,13 @@ part_touched c q k h (Disc a d) r e =
 part_touched c q k h (Capsule a b d) r e =
     let wide = first_true (int_lt (pos 0) d) (near_of q a b d) e in
     both_true (int_lt (pos 0) d) (near_of c a b (grown d h)) wide (near_centre c q a b k h d r (to_le_of_lt (pos 0) d wide) (second_true (int_lt (pos 0) d) (near_of q a b d) e))
+part_touched c q k h (Area loops) r e =
+    by_bool (area_near c (twice h) loops) (λ n. left_true (area_near c (twice h) loops) (area_holds c loops) n)
+    (λ f. right_true (area_near c (twice h) loops) (area_holds c loops) (sym (same_side c q k h loops r f) ∙ e))
+
+was_not : (b : Bool) → not b ≡ true → b ≡ false
+was_not true e = sym e
+was_not false e = refl
 
 pub part_covered : (c q : Point) (k h : ℤ) (part : Part) → IsReach c q k h → part_covers c h part ≡ true → part_holds q part ≡ true
 part_covered c q k h (Disc a d) r e =
@@ -97,3 +124,6 @@ part_covered c q k h (Disc a d) r e =
 part_covered c q k h (Capsule a b d) r e =
     let wide = first_true (int_lt (twice h) d) (near_of c a b (shrunk d h)) e in
     both_true (int_lt (pos 0) d) (near_of q a b d) (above h d r.h_in wide) (near_point c q a b k h d r wide (second_true (int_lt (twice h) d) (near_of c a b (shrunk d h)) e))
+part_covered c q k h (Area loops) r e =
+    same_side c q k h loops r (was_not (area_near c (twice h) loops) (first_true (not (area_near c (twice h) loops)) (area_holds c loops) e))
+    ∙ second_true (not (area_near c (twice h) loops)) (area_holds c loops) e

@@ -3,8 +3,9 @@ use Rattle.std.specs.Prelude.{ℤ, pos, ◌≤ℤ◌, ◌+ℤ◌, ◌-ℤ◌, in
 use Rattle.std.specs.List.{fold}
 use Rattle.std.specs.Int.{int_div_euclid, int_min, int_max}
 use Rattle.board_base.specs.declared.places.Point.{Point}
+use Rattle.poly_area.specs.Area.{edges_of}
 use Rattle.shape_parts.specs.declared.shape.Part.{Part}
-use Rattle.shape_parts.specs.declared.shape.Part.TheVariants.{Disc, Capsule}
+use Rattle.shape_parts.specs.declared.shape.Part.TheVariants.{Disc, Capsule, Area}
 use Rattle.shape_parts.specs.declared.shape.Piece.{Piece}
 use Rattle.board_base.specs.declared.places.Bounds.{Bounds}
 use Rattle.board_base.specs.Places.{IsWithin}
@@ -26,10 +27,11 @@ abbrev pub widened : ℤ → Option Bounds → Point → Option Bounds
 widened r None p = Some (around p r)
 widened r (Some b) p = Some (hull b (around p r))
 
--- the rectangle grown by a part that has a width
+-- the rectangle grown by a part that has a width, or by the points of an area
 abbrev pub part_box : Option Bounds → Part → Option Bounds
 part_box box (Disc c d) = cond (int_lt (pos 0) d) (widened (half_up d) box c) box
 part_box box (Capsule a b d) = cond (int_lt (pos 0) d) (widened (half_up d) (widened (half_up d) box a) b) box
+part_box box (Area loops) = fold (λ b e. widened (pos 0) b e.from) box (edges_of loops)
 
 -- the rectangle grown by a piece that is on
 abbrev pub piece_box : Option Bounds → Piece → Option Bounds

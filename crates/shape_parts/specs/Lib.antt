@@ -6,3 +6,5 @@ pub mod Literal
 pub mod Mirror
 pub mod Boxes
 pub mod BoxLaw
+pub mod Moved
+pub mod Vertices

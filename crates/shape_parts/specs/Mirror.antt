@@ -1,19 +1,16 @@
 -- The other side of the board.
-use Rattle.std.specs.Prelude.{neg_ℤ, map}
-use Rattle.board_base.specs.declared.places.Point.{Point}
+use Rattle.std.specs.Prelude.{map}
+use Rattle.poly_area.specs.Mirror.{mirrored, mirrored_loops}
 use Rattle.shape_parts.specs.declared.shape.Part.{Part}
-use Rattle.shape_parts.specs.declared.shape.Part.TheVariants.{Disc, Capsule}
+use Rattle.shape_parts.specs.declared.shape.Part.TheVariants.{Disc, Capsule, Area}
 use Rattle.shape_parts.specs.declared.shape.Piece.{Piece}
 use Rattle.shape_parts.specs.declared.shape.Painted.{Painted}
-
--- the point on the other side of the y axis
-unfoldable pub mirrored : Point → Point
-mirrored p = record { x = neg_ℤ p.x; y = p.y }
 
 -- the part on the other side
 abbrev pub mirrored_part : Part → Part
 mirrored_part (Disc c d) = Disc (mirrored c) d
 mirrored_part (Capsule a b d) = Capsule (mirrored a) (mirrored b) d
+mirrored_part (Area loops) = Area (mirrored_loops loops)
 
 -- the piece on the other side, on where it was
 abbrev pub mirrored_piece : Piece → Piece

@@ -3,11 +3,13 @@ ghost use Rattle.std.specs.Prelude.{◌≡◌, ℤ, ℕ, pos, ◌+ℤ◌, ◌-�
 ghost use Rattle.std.specs.List.{All};
 ghost use Rattle.std.specs.Int.{int_min, int_max};
 ghost use Rattle.board_base.specs.Places.{IsPlace};
+ghost use Rattle.shape_parts.specs.declared.shape.Part.TheVariants.{Area};
 ghost use Rattle.shape_parts.specs.Parts.{IsPart, IsPiece, IsWidth};
-ghost use Rattle.shape_parts.specs.Boxes.{half_up as half_up_of, around as around_of, hull as hull_of, widened as widened_of, part_box, piece_box, shape_box};
+ghost use Rattle.shape_parts.specs.Boxes.{half_up as half_up_of, around as around_of, hull as hull_of, widened as widened_of, part_box, piece_box, shape_box, AreBounds};
 
 use crate::shape::{Part, Piece};
 use board_base::{Bounds, Point};
+use poly_area::Poly;
 
 // The lesser of two.
 fn least(a: i64, b: i64) -> i64
@@ -74,7 +76,9 @@ fn widened(r: i64, to: Option<Bounds>, p: Point) -> Option<Bounds>
     requires p { IsPlace p }
     requires r_low { pos 0 ≤ℤ r }
     requires r_high { r ≤ℤ pos 500000000 }
-    ensures { result ≡ widened_of r to p }
+    requires bounds { AreBounds to }
+    ensures value { result ≡ widened_of r to p }
+    ensures bounds { AreBounds result }
 {
     match to {
         None => Some(around(p, r)),
@@ -82,10 +86,26 @@ fn widened(r: i64, to: Option<Bounds>, p: Point) -> Option<Bounds>
     }
 }
 
+// Grown by the points of an area.
+fn with_area(to: Option<Bounds>, poly: &Poly) -> Option<Bounds>
+    requires { AreBounds to }
+    ensures value { result ≡ part_box to (Area poly.now) }
+    ensures bounds { AreBounds result }
+{
+    let mut all = to;
+    'edges: for k in 0..poly.edges() {
+        let (from, _) = poly.edge(k);
+        all = widened(0, all, from);
+    }
+    all
+}
+
 // Grown by a part.
 fn with_part(to: Option<Bounds>, part: &Part) -> Option<Bounds>
-    requires { IsPart part.now }
-    ensures { result ≡ part_box to part.now }
+    requires part { IsPart part.now }
+    requires bounds { AreBounds to }
+    ensures value { result ≡ part_box to part.now }
+    ensures bounds { AreBounds result }
 {
     match part {
         Part::Disc { c, d } => if *d > 0 {
@@ -99,13 +119,16 @@ fn with_part(to: Option<Bounds>, part: &Part) -> Option<Bounds>
         } else {
             to
         },
+        Part::Area { poly } => with_area(to, poly),
     }
 }
 
 // Grown by a piece.
 fn with_piece(to: Option<Bounds>, piece: &Piece) -> Option<Bounds>
-    requires { IsPiece piece.now }
-    ensures { result ≡ piece_box to piece.now }
+    requires piece { IsPiece piece.now }
+    requires bounds { AreBounds to }
+    ensures value { result ≡ piece_box to piece.now }
+    ensures bounds { AreBounds result }
 {
     if piece.on {
         with_part(to, &piece.part)
@@ -117,7 +140,8 @@ fn with_piece(to: Option<Bounds>, piece: &Piece) -> Option<Bounds>
 // The rectangle round all on pieces.
 pub(crate) fn box_round(pieces: &[Piece]) -> Option<Bounds>
     requires { All IsPiece pieces.now }
-    ensures { result ≡ shape_box pieces.now }
+    ensures value { result ≡ shape_box pieces.now }
+    ensures bounds { AreBounds result }
 {
     let mut all = None;
     'pieces: for piece in pieces {

@@ -9,6 +9,7 @@ ghost use Rattle.shape_parts.specs.Literal.{Literal};
 
 mod boxes;
 mod mirror;
+mod moves;
 mod parts;
 mod shape;
 #[cfg(test)]
@@ -16,6 +17,7 @@ mod tests;
 
 pub use boxes::hull;
 pub use mirror::mirror_x;
+pub use poly_area::{Motion, Poly};
 pub use shape::{Painted, Part, Piece, Shape, is_dark};
 
 /// Every dark point lies in a kept cell.

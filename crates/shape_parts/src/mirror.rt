@@ -3,14 +3,15 @@ ghost use Rattle.std.specs.Prelude.{◌≡◌, List, map, IfOk};
 ghost use Rattle.std.specs.List.{All};
 ghost use Rattle.shape_parts.specs.Parts.{IsPart, IsPiece};
 ghost use Rattle.board_base.specs.Places.{IsPlace};
-ghost use Rattle.shape_parts.specs.Mirror.{mirrored as mirrored_of, mirrored_part as mirrored_part_of, mirrored_piece, mirrored_object};
+ghost use Rattle.poly_area.specs.Mirror.{mirrored as mirrored_of};
+ghost use Rattle.shape_parts.specs.Mirror.{mirrored_part as mirrored_part_of, mirrored_piece, mirrored_object};
 
 use crate::shape::{Painted, Part, Piece};
 use board_base::Point;
 use std::alloc::{AllocError, Global};
 
 // The point on the other side of the y axis.
-#[tactic(auto, unfolding(crate::specs::Mirror::mirrored))]
+#[tactic(auto, unfolding(poly_area::specs::Mirror::mirrored))]
 fn mirrored(p: Point) -> Point
     requires { IsPlace p }
     ensures value { result ≡ mirrored_of p }
@@ -20,21 +21,25 @@ fn mirrored(p: Point) -> Point
 }
 
 // The part with every x negated.
-fn mirrored_part(part: &Part) -> Part
+fn mirrored_part(alloc: Global, part: &Part) -> Result<Part, AllocError>
     requires { IsPart part.now }
-    ensures value { result ≡ mirrored_part_of part.now }
-    ensures fits { IsPart result }
+    ensures value { IfOk result (λ p. p ≡ mirrored_part_of part.now) }
+    ensures fits { IfOk result IsPart }
 {
     match part {
-        Part::Disc { c, d } => Part::Disc {
+        Part::Disc { c, d } => Ok(Part::Disc {
             c: mirrored(*c),
             d: *d,
-        },
-        Part::Capsule { a, b, d } => Part::Capsule {
+        }),
+        Part::Capsule { a, b, d } => Ok(Part::Capsule {
             a: mirrored(*a),
             b: mirrored(*b),
             d: *d,
-        },
+        }),
+        Part::Area { poly } => {
+            let other = poly.mirrored(alloc)?;
+            Ok(Part::Area { poly: other })
+        }
     }
 }
 
@@ -46,7 +51,7 @@ pub(crate) fn mirrored_pieces(alloc: Global, pieces: &[Piece]) -> Result<Vec<Pie
 {
     let mut all = Vec::new(alloc);
     'pieces: for piece in pieces {
-        let part = mirrored_part(&piece.part);
+        let part = mirrored_part(alloc, &piece.part)?;
         all.push(Piece { part, on: piece.on })?;
     }
     Ok(all)

@@ -112,6 +112,7 @@ fn holds(part: &Part, q: Point) -> bool
     match part {
         Part::Disc { c, d } => segment_holds(q, *c, *c, *d),
         Part::Capsule { a, b, d } => segment_holds(q, *a, *b, *d),
+        Part::Area { poly } => poly.contains(q),
     }
 }
 
@@ -126,6 +127,7 @@ fn touches(part: &Part, c: Point, h: i64) -> bool
     match part {
         Part::Disc { c: a, d } => segment_touches(c, h, *a, *a, *d),
         Part::Capsule { a, b, d } => segment_touches(c, h, *a, *b, *d),
+        Part::Area { poly } => poly.edge_near(c, double(h)) || poly.contains(c),
     }
 }
 
@@ -140,6 +142,7 @@ fn covers(part: &Part, c: Point, h: i64) -> bool
     match part {
         Part::Disc { c: a, d } => segment_covers(c, h, *a, *a, *d),
         Part::Capsule { a, b, d } => segment_covers(c, h, *a, *b, *d),
+        Part::Area { poly } => !poly.edge_near(c, double(h)) && poly.contains(c),
     }
 }
 

@@ -1,18 +1,22 @@
 // Shapes and painted objects.
-ghost use Rattle.std.specs.Prelude.{◌≡◌, ℤ, ℕ, pos, ◌≤ℤ◌, ◌<ℤ◌, ◌<◌, ◌+◌, ◌≤◌, ◌^◌, List, [], ◌∷◌, ◌++◌, length, OnOk, OnErr, IfOk, map, Bool, not, ◌&&◌, ◌||◌};
+ghost use Rattle.std.specs.Prelude.{◌≡◌, ℤ, ℕ, pos, ◌≤ℤ◌, ◌<ℤ◌, ◌<◌, ◌+◌, ◌≤◌, ◌^◌, List, [], ◌∷◌, ◌++◌, length, OnOk, OnErr, IfOk, is_none, map, Bool, not, ◌&&◌, ◌||◌};
 ghost use Rattle.std.specs.List.{All};
 ghost use Rattle.board_base.specs.Places.{IsNearPlace};
 ghost use Rattle.board_base.specs.Lattice.{centre_of, half_diagonal_of, IsPitch, IsHalfDiagonal};
 ghost use Rattle.shape_parts.specs.Parts.{IsPart, IsPiece, HoldsPiece};
 ghost use Rattle.shape_parts.specs.Shapes.{shape_holds, shape_touches, shape_covers};
 ghost use Rattle.shape_parts.specs.Mirror.{mirrored_piece};
+ghost use Rattle.shape_parts.specs.Moved.{moved_pieces as moved_pieces_of};
+ghost use Rattle.shape_parts.specs.Vertices.{vertices_of};
 ghost use Rattle.shape_parts.specs.Boxes.{shape_box, AreBounds};
 ghost use Rattle.shape_parts.specs.Cover.{is_dark as is_dark_of};
 
 use crate::boxes::box_round;
 use crate::mirror::mirrored_pieces;
+use crate::moves::{any_leaves, moved_pieces, vertices};
 use crate::parts::{covers_last, holds_last, touches_last};
 use board_base::{Bounds, Cell, Point, centre, half_diagonal};
+use poly_area::{Motion, Poly};
 use std::alloc::{AllocError, Global};
 use std::marker::Model;
 
@@ -23,6 +27,8 @@ pub enum Part {
     Disc { c: Point, d: i64 },
     /// What is at most half of `d` from the segment `ab`.
     Capsule { a: Point, b: Point, d: i64 },
+    /// What the closed loops hold.
+    Area { poly: Poly },
 }
 
 /// A part that is on, or takes away from the parts before it.
@@ -71,6 +77,14 @@ impl Shape {
         Ok(())
     }
 
+    /// The parts in their order.
+    pub fn pieces(&self) -> &[Piece]
+        ensures value { result.now ≡ self.now }
+        ensures parts { All IsPiece result.now }
+    {
+        &self.pieces
+    }
+
     /// The number of parts, on and off.
     pub fn len(&self) -> u32
         requires { length self.now < 2 ^ 32 }
@@ -82,7 +96,8 @@ impl Shape {
     /// Part `k`.
     pub fn part(&self, k: u32) -> &Part
         requires { k < length self.now }
-        ensures { HoldsPiece self.now k (λ p. p.part ≡ result.now) }
+        ensures part { HoldsPiece self.now k (λ p. p.part ≡ result.now) }
+        ensures fits { IsPart result.now }
     {
         &self.pieces[k as usize].part
     }
@@ -161,6 +176,31 @@ impl Shape {
     {
         let pieces = mirrored_pieces(alloc, &self.pieces)?;
         Ok(Shape { pieces })
+    }
+
+    /// The shape with all points moved, or `None` where one of them leaves the range. Widths stay. It fails
+    /// only without memory.
+    pub fn moved<M: Motion>(&self, alloc: Global, motion: &M) -> Result<Option<Shape>, AllocError>
+        ensures { IfOk result (λ o. o ≡ moved_pieces_of (M.moves motion.now) self.now) }
+    {
+        match moved_pieces(alloc, &self.pieces, motion)? {
+            Some(pieces) => Ok(Some(Shape { pieces })),
+            None => Ok(None),
+        }
+    }
+
+    /// Whether a point of the shape leaves the range when it is moved.
+    pub fn leaves<M: Motion>(&self, motion: &M) -> bool
+        ensures { result ≡ is_none (moved_pieces_of (M.moves motion.now) self.now) }
+    {
+        any_leaves(&self.pieces, motion)
+    }
+
+    /// How many points the areas of the shape have.
+    pub fn vertices(&self) -> u128
+        ensures { result ≡ vertices_of self.now }
+    {
+        vertices(&self.pieces)
     }
 }
 

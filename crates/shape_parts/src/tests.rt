@@ -1,5 +1,5 @@
 // What the definitions come to, worked out by hand. Lengths are in micrometres but where a test says otherwise.
-ghost use Rattle.std.specs.Prelude.{pos};
+ghost use Rattle.std.specs.Prelude.{◌+ℤ◌, pos, int_le, cond, Some, None};
 ghost use Rattle.board_base.specs.Places.{IsNearPlace, IsPlace};
 ghost use Rattle.board_base.specs.Lattice.{centre_of};
 ghost use Rattle.shape_parts.specs.Parts.{IsPart};
@@ -184,5 +184,155 @@ fn the_mirror_image_has_every_x_negated(rt: HostRuntime) -> Result<(), Fail> {
     for (x, want) in [(-1000_i64, true), (1000, false)] {
         assert_eq!(rt; is_dark(&other, Point { x, y: -2000 }), want, "at {x}");
     }
+    Ok(())
+}
+
+// The area through the middles of a square's sides, which is a millimetre wide.
+fn diamond(alloc: Global) -> Part
+    ensures { IsPart result }
+{
+    let mut poly = Poly::empty(alloc);
+    let _added = poly.add_loop(&[at(0, 500), at(500, 0), at(1000, 500), at(500, 1000)]);
+    Part::Area { poly }
+}
+
+// A hole in the middle of the diamond.
+fn holed_diamond(alloc: Global) -> Result<Shape, AllocError> {
+    let mut shape = Shape::empty(alloc);
+    shape.push(diamond(alloc), true)?;
+    shape.push(disc(500, 500, 200), false)?;
+    Ok(shape)
+}
+
+#[test]
+fn an_area_touches_by_its_edges_and_inside(rt: HostRuntime) -> Result<(), Fail> {
+    let mut shape = Shape::empty(rt.alloc());
+    shape.push(diamond(rt.alloc()), true)?;
+    // In the row of the middle. The way to the nearest side is 0.7071 of the way to the corner inside, and
+    // that way itself outside; half a diagonal is 141.422.
+    for (x, holds, touches, covers) in [
+        (-142_i16, false, false, false),
+        (-100, false, true, false),
+        (100, true, true, false),
+        (200, true, true, false),
+        (201, true, true, true),
+        (500, true, true, true),
+        (1100, false, true, false),
+        (1142, false, false, false),
+    ] {
+        let q = at(x, 500);
+        assert_eq!(rt;
+            (
+                shape.contains(q),
+                shape.touches_at(q, 141422),
+                shape.covers_at(q, 141422)
+            ),
+            (holds, touches, covers),
+            "at {x}"
+        );
+    }
+    Ok(())
+}
+
+#[test]
+fn an_off_disc_takes_away_from_an_area(rt: HostRuntime) -> Result<(), Fail> {
+    let shape = holed_diamond(rt.alloc())?;
+    for (x, want) in [
+        (-1_i16, false),
+        (0, true),
+        (399, true),
+        (400, false),
+        (500, false),
+        (600, false),
+        (601, true),
+    ] {
+        assert_eq!(rt; shape.contains(at(x, 500)), want, "at {x}");
+    }
+    assert_eq!(rt; (shape.vertices(), shape.pieces().len()), (4, 2));
+    Ok(())
+}
+
+// A way to the east, in nanometres.
+#[derive(Clone, Copy)]
+struct East {
+    by: u32,
+}
+
+impl Motion for East {
+    ghost moves = { λ s p. cond (int_le (p.x +ℤ pos s.by) (pos 500000000)) (Some (record { x = p.x +ℤ pos s.by; y = p.y })) None };
+
+    fn moved(&self, p: Point) -> Option<Point> {
+        let x = p.x + self.by as i64;
+        if x <= 500_000_000 {
+            Some(Point { x, y: p.y })
+        } else {
+            None
+        }
+    }
+}
+
+#[test]
+fn a_moved_shape_has_its_points_moved(rt: HostRuntime) -> Result<(), Fail> {
+    let alloc = rt.alloc();
+    let mut shape = holed_diamond(alloc)?;
+    shape.push(CAPSULE, true)?;
+    let moved = match shape.moved(alloc, &East { by: 2_000_000 })? {
+        Some(moved) => moved,
+        None => Shape::empty(alloc),
+    };
+    // The capsule from (0, 0) to (1, -2), 0.1 wide, comes to (2000, 0) and (2001, -2).
+    for (x, y, want) in [
+        (2500_i16, 500_i16, false),
+        (2399, 500, true),
+        (1999, 500, false),
+        (2001, -2, true),
+        (1, -2, false),
+    ] {
+        assert_eq!(rt; moved.contains(at(x, y)), want, "at ({x}, {y})");
+    }
+    assert_eq!(rt; (moved.vertices(), moved.pieces().len()), (4, 3));
+    Ok(())
+}
+
+#[test]
+fn a_shape_leaves_with_any_of_its_points(rt: HostRuntime) -> Result<(), Fail> {
+    let alloc = rt.alloc();
+    let mut shape = Shape::empty(alloc);
+    shape.push(disc(0, 0, 200), true)?;
+    shape.push(diamond(alloc), false)?;
+    // The east corner, a millimetre from the origin, comes to the end of the range, and past it.
+    for (by, leaves) in [(499_000_000_u32, false), (499_000_001, true)] {
+        let east = East { by };
+        let moved = shape.moved(alloc, &east)?;
+        assert_eq!(rt;
+            (shape.leaves(&east), moved.is_none()),
+            (leaves, leaves),
+            "by {by}"
+        );
+    }
+    Ok(())
+}
+
+#[test]
+fn the_rectangle_and_the_mirror_image_of_an_area(rt: HostRuntime) -> Result<(), Fail> {
+    let shape = holed_diamond(rt.alloc())?;
+    let other = shape.mirrored(rt.alloc())?;
+    let here = Bounds {
+        x0: 0,
+        y0: 0,
+        x1: 1_000_000,
+        y1: 1_000_000,
+    };
+    let there = Bounds {
+        x0: -1_000_000,
+        y0: 0,
+        x1: 0,
+        y1: 1_000_000,
+    };
+    assert_eq!(rt; [shape.bounds(), other.bounds()], [Some(here), Some(there)]);
+    assert_eq!(rt;
+        (other.contains(at(-300, 500)), other.contains(at(300, 500))),
+        (true, false)
+    );
     Ok(())
 }

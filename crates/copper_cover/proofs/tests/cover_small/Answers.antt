@@ -1,4 +1,4 @@
-use Rattle.std.proofs.Common.{◌≡◌, ℤ, pos, negsuc, ◌+ℤ◌, ◌*ℤ◌, sym, subst, refl, arith}
+use Rattle.std.proofs.Common.{ℤ, pos, negsuc, sym, subst, refl, arith}
 use borrow.Author.Differences.{ints}
 use Rattle.board_base.specs.declared.places.Cell.{Cell}
 use Rattle.board_base.specs.Places.{IsNearPlace, IsNearCoordinate}

@@ -6,5 +6,5 @@ use Rattle.gerber_image.proofs.Copies.{are_inside}
 use Rattle.gerber_image.proofs.state.State.paint_block.Goals as goal
 
 pub paint_copies-requires-clause-inside : goal.paint_copies-requires-clause-inside
-paint_copies-requires-clause-inside c = are_inside c.in-Some.repeat c.deref-3.result.now
-    (ap (λ block. list_any is_outside (copies_of c.in-Some.repeat block)) (c.deref-3.ensures.value ∙ sym c.deref.ensures.value) ∙ sym c.copies_leave.ensures ∙ c.if-copies_leave.false)
+paint_copies-requires-clause-inside c = are_inside c.in-Some.repeat c.all-2.result.now
+    (ap (λ block. list_any is_outside (copies_of c.in-Some.repeat block)) (c.all-2.ensures ∙ sym c.all.ensures) ∙ sym c.copies_leave.ensures ∙ c.if-copies_leave.false)

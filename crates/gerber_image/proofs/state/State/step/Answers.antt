@@ -1,13 +1,13 @@
 use Rattle.gerber_image.specs.State.{kept}
 use Rattle.gerber_image.specs.declared.command.Said.TheVariants as says
-use Rattle.gerber_image.proofs.ReadyLaws.{taken, operated, ready_format, ready_unit, ready_polarity, ready_mirror, ready_rotation, ready_mode, ready_select, ready_define, ready_open, ready_close}
+use Rattle.gerber_image.proofs.ReadyLaws.{taken, operated, ready_format, ready_unit, ready_polarity, ready_mirror, ready_rotation, ready_mode, ready_quadrants, ready_begin, ready_end, ready_select, ready_define, ready_open, ready_close}
 use Rattle.gerber_image.proofs.state.State.step.Goals as goal
 
 pub returns-in-Format-clause-ready : goal.returns-in-Format-clause-ready
 returns-in-Format-clause-ready c = taken (kept c.args.self.now) (kept c.set_format.new.self) (says.Format c.in-Format.format) _ c.set_format.ensures (λ _. ready_format (kept c.args.self.now) c.in-Format.format c.requires.ready (rw c.in-Format.is at c.requires.said))
 
 pub returns-in-Unit-clause-ready : goal.returns-in-Unit-clause-ready
-returns-in-Unit-clause-ready c = taken (kept c.args.self.now) (kept c.set_unit.new.self) (says.Unit c.in-Unit.unit) _ c.set_unit.ensures (λ _. ready_unit (kept c.args.self.now) c.in-Unit.unit c.requires.ready)
+returns-in-Unit-clause-ready c = taken (kept c.args.self.now) (kept c.set_unit.new.self) (says.Unit c.in-Unit.unit c.in-Unit.in_block) _ c.set_unit.ensures (λ _. ready_unit (kept c.args.self.now) c.in-Unit.unit c.in-Unit.in_block c.requires.ready)
 
 pub returns-in-Polarity-clause-ready : goal.returns-in-Polarity-clause-ready
 returns-in-Polarity-clause-ready c = taken (kept c.args.self.now) (kept c.set_dark.new.self) (says.Polarity c.in-Polarity.dark) _ c.set_dark.ensures (λ _. ready_polarity (kept c.args.self.now) c.in-Polarity.dark c.requires.ready)
@@ -35,4 +35,13 @@ pub returns-in-Close-clause-ready : goal.returns-in-Close-clause-ready
 returns-in-Close-clause-ready c = taken (kept c.args.self.now) (kept c.close.new.self) says.Close _ c.close.ensures (λ e. ready_close (kept c.args.self.now) c.requires.ready e)
 
 pub returns-in-Operate-clause-ready : goal.returns-in-Operate-clause-ready
-returns-in-Operate-clause-ready c = operated (kept c.args.self.now) (kept c.operate.new.self) c.in-Operate.operation _ c.operate.ensures.steps c.operate.ensures.place c.operate.ensures.block c.operate.ensures.painted c.requires.ready
+returns-in-Operate-clause-ready c = operated (kept c.args.self.now) (kept c.operate.new.self) c.in-Operate.operation _ c.operate.ensures.steps c.operate.ensures.place c.requires.ready
+
+pub returns-in-Quadrants-clause-ready : goal.returns-in-Quadrants-clause-ready
+returns-in-Quadrants-clause-ready c = taken (kept c.args.self.now) (kept c.set_quadrants.new.self) (says.Quadrants c.in-Quadrants.all) _ c.set_quadrants.ensures (λ _. ready_quadrants (kept c.args.self.now) c.in-Quadrants.all c.requires.ready)
+
+pub returns-in-BeginRegion-clause-ready : goal.returns-in-BeginRegion-clause-ready
+returns-in-BeginRegion-clause-ready c = taken (kept c.args.self.now) (kept c.begin_region.new.self) says.BeginRegion _ c.begin_region.ensures (λ _. ready_begin (kept c.args.self.now) c.requires.ready)
+
+pub returns-in-EndRegion-clause-ready : goal.returns-in-EndRegion-clause-ready
+returns-in-EndRegion-clause-ready c = taken (kept c.args.self.now) (kept c.end_region.new.self) says.EndRegion _ c.end_region.ensures (λ e. ready_end (kept c.args.self.now) c.requires.ready e)
