@@ -3,3 +3,4 @@ pub mod Ring
 pub mod Order
 pub mod Tests
 pub mod Quotients
+pub mod Squares
