@@ -8,4 +8,3 @@ pub mod Parts
 pub mod Places
 pub mod Near
 pub mod Lattice
-pub mod Contour

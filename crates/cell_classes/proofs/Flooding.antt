@@ -9,13 +9,14 @@ use Rattle.board_base.specs.Lattice.{IsBeside}
 use Rattle.cell_grid.specs.declared.frames.Frame.{Frame}
 use Rattle.cell_grid.specs.Place.{place_of, cells_of}
 use Rattle.cell_grid.specs.Cells.{in_frame, number_in}
-use Rattle.cell_grid.specs.Chains.{Chain, IsLinked}
+use Rattle.cell_sets.specs.Chains.{Chain, IsLinked}
 use Rattle.cell_grid.proofs.PlaceLaws.{place_below}
 use Rattle.cell_grid.proofs.CellsLaws.{in_frame_is}
 use Rattle.cell_classes.specs.Ways.{neighbour_of}
 use Rattle.cell_classes.specs.Floods.{IsOpen, IsReady, IsReached, IsFlooded, IsFresh, IsGrown}
-use Rattle.cell_classes.proofs.Frames.{cell}
-use Rattle.cell_classes.proofs.Links.{beside_sym, beside_neighbour, neighbours, linked_self, linked_end}
+use Rattle.cell_sets.proofs.CellLaws.{cell, beside_sym}
+use Rattle.cell_sets.proofs.Links.{IsFree, linked_self, linked_end}
+use Rattle.cell_classes.proofs.Links.{beside_neighbour, neighbours}
 use Rattle.cell_classes.proofs.Numbers.{number_inside, number_all, count_one, count_none, written_here, written_else, here_or_else, still, split}
 
 -- some cell, for where none is taken
@@ -183,7 +184,7 @@ module _ (f : Frame) (taken : Cell → Bool) (outer v : ℕ) (old : List ℕ) (s
             let old_ne : number_in f outer old b ≢ v = λ z. ne (was ∙ z) in
             let own = p.at_own turn_in in
             let r = p.sound at own in
-            let same = p.ready.whole b at old_b old_ne (beside_sym at b (beside_neighbour at turn)) (linked_end taken r.from at r.linked) in
+            let same = p.ready.whole b at old_b old_ne (beside_sym at b (beside_neighbour at turn)) (linked_end (IsFree taken) r.from at r.linked) in
             absurd (elim (p.free at own) as (λ _. ⊥) [ inl z ↦ old_b (sym same ∙ z) | inr e ↦ old_ne (sym same ∙ e) ])
       ]
 
@@ -225,7 +226,7 @@ module _ (f : Frame) (taken : Cell → Bool) (outer v : ℕ) (old : List ℕ) (s
     len = len;
     count = r.count;
     queued = r.queued;
-    sound = λ a e. record { from = a; own = e; linked = linked_self taken a (r.own_taken a e) };
+    sound = λ a e. record { from = a; own = e; linked = linked_self (IsFree taken) a (r.own_taken a e) };
     seeded = λ a e. e;
     rest = λ a ne. refl;
     free = λ a e. inr e;

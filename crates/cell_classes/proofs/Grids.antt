@@ -8,8 +8,8 @@ use Rattle.cell_grid.specs.declared.bits.Plane.{Plane}
 use Rattle.cell_grid.specs.Grid.{Grid, plane_of}
 use Rattle.cell_grid.specs.Place.{IsFrame, InFrame, place_of, cells_of}
 use Rattle.cell_grid.specs.Cells.{number_in, IsOnBorder}
-use Rattle.cell_grid.specs.Chains.{IsClasses}
-use Rattle.cell_grid.specs.Islands.{AreIslands}
+use Rattle.cell_sets.specs.Chains.{IsClasses}
+use Rattle.cell_sets.specs.Islands.{AreIslands}
 use Rattle.cell_grid.proofs.PlaceLaws.{place_below}
 use Rattle.cell_grid.proofs.CellsLaws.{in_frame_true}
 use Rattle.cell_classes.specs.Taken.{is_taken}

@@ -5,13 +5,13 @@ use Rattle.board_base.specs.declared.places.Cell.{Cell}
 use Rattle.cell_grid.specs.declared.frames.Frame.{Frame}
 use Rattle.cell_grid.specs.Place.{InFrame, place_of, cells_of}
 use Rattle.cell_grid.specs.Cells.{in_frame, number_in}
-use Rattle.cell_grid.specs.Chains.{IsBefore, IsLinked}
+use Rattle.cell_sets.specs.Chains.{IsBefore, IsLinked}
 use Rattle.cell_grid.proofs.PlaceLaws.{place_below, place_same}
 use Rattle.cell_grid.proofs.CellsLaws.{in_frame_is, before}
 use Rattle.number_laws.proofs.Tests.{by_bool}
 use Rattle.cell_classes.specs.Floods.{IsOpen, IsFresh, IsGrown}
 use Rattle.cell_classes.specs.Classes.{IsBegun, IsNumbered}
-use Rattle.cell_classes.proofs.Links.{linked_self, linked_sym, linked_trans, linked_step, linked_end, linked_start}
+use Rattle.cell_sets.proofs.Links.{IsFree, linked_self, linked_sym, linked_trans, linked_step, linked_end, linked_start}
 use Rattle.cell_classes.proofs.Numbers.{number_outside, at_places}
 
 module _ (f : Frame) (taken : Cell → Bool) (outer : ℕ) where
@@ -61,7 +61,7 @@ module _ (f : Frame) (taken : Cell → Bool) (outer : ℕ) where
     fresh = at_places (λ x. x ≢ count + 1) f outer works p.len (λ a e. omega (arith, p.few a, e)) (λ e. omega (arith, e));
     whole = λ a b some step b_taken.
         elim (taken_or_not a) as (λ _. number_in f outer works b ≡ number_in f outer works a) [
-          | inl k ↦ sym (p.whole a b (omega (arith, some)) (linked_step taken a b k step b_taken))
+          | inl k ↦ sym (p.whole a b (omega (arith, some)) (linked_step (IsFree taken) a b k step b_taken))
           | inr clear ↦ absurd (some (p.clear a clear))
         ];
   }
@@ -71,19 +71,19 @@ module _ (f : Frame) (taken : Cell → Bool) (outer : ℕ) where
       → IsGrown f taken outer works new s (count + 1) → IsNumbering new (count + 1) (n + 1)
   next_class works new count n s p o at_n new_len g =
       let v = count + 1 in
-      let own : number_in f outer new s ≡ v = g.complete s (linked_self taken s o.taken_there) in
+      let own : number_in f outer new s ≡ v = g.complete s (linked_self (IsFree taken) s o.taken_there) in
       let olds : (a : Cell) → (number_in f outer new a ≡ v) ⊎ (number_in f outer new a ≡ number_in f outer works a) =
       λ a. elim (cases_eq (number_in f outer new a) v) as (λ _. (number_in f outer new a ≡ v) ⊎ (number_in f outer new a ≡ number_in f outer works a)) [ inl e ↦ inl e | inr ne ↦ inr (g.rest a ne) ] in
       let stays : (a : Cell) → number_in f outer works a ≢ 0 → number_in f outer new a ≡ number_in f outer works a = λ a some.
       elim (cases_eq (number_in f outer new a) v) as (λ _. number_in f outer new a ≡ number_in f outer works a) [
-        | inl e ↦ absurd (let j = linked_sym taken s a (g.sound a e) in some (p.whole a s (omega (arith, some)) j ∙ o.free))
+        | inl e ↦ absurd (let j = linked_sym (IsFree taken) s a (g.sound a e) in some (p.whole a s (omega (arith, some)) j ∙ o.free))
         | inr ne ↦ g.rest a ne
       ] in
       record {
         len = new_len;
         outside = p.outside;
         clear = λ a c. elim (cases_eq (number_in f outer new a) v) as (λ _. number_in f outer new a ≡ 0) [
-          | inl e ↦ absurd (false≢true (sym c ∙ linked_end taken s a (g.sound a e)))
+          | inl e ↦ absurd (false≢true (sym c ∙ linked_end (IsFree taken) s a (g.sound a e)))
           | inr ne ↦ g.rest a ne ∙ p.clear a c
         ];
         early = λ a i l k z. elim (cases_eq (place_of f a) n) as (λ _. ⊥) [
@@ -95,14 +95,14 @@ module _ (f : Frame) (taken : Cell → Bool) (outer : ℕ) where
         few = λ a. elim (olds a) as (λ _. number_in f outer new a ≤ v) [ inl e ↦ omega (arith, e) | inr e ↦ omega (arith, p.few a, e) ];
         based = omega (arith, p.based);
         same = λ a b some e. elim (olds a) as (λ _. IsLinked taken a b) [
-          | inl ea ↦ linked_trans taken a s b (linked_sym taken s a (g.sound a ea)) (g.sound b (sym e ∙ ea))
+          | inl ea ↦ linked_trans (IsFree taken) a s b (linked_sym (IsFree taken) s a (g.sound a ea)) (g.sound b (sym e ∙ ea))
           | inr ea ↦ elim (olds b) as (λ _. IsLinked taken a b) [
             | inl eb ↦ absurd (omega (arith, p.few a, ea, e, eb))
             | inr eb ↦ p.same a b (omega (arith, some, ea)) (sym ea ∙ e ∙ eb)
           ]
         ];
         whole = λ a b some j. elim (olds a) as (λ _. number_in f outer new a ≡ number_in f outer new b) [
-          | inl ea ↦ ea ∙ sym (g.complete b (linked_trans taken s a b (g.sound a ea) j))
+          | inl ea ↦ ea ∙ sym (g.complete b (linked_trans (IsFree taken) s a b (g.sound a ea) j))
           | inr ea ↦
               let l : number_in f outer works a ≡ number_in f outer works b = p.whole a b (omega (arith, some, ea)) j in
               ea ∙ l ∙ sym (stays b (λ z. omega (arith, z, l, some, ea)))
@@ -134,8 +134,8 @@ module _ (f : Frame) (taken : Cell → Bool) (outer : ℕ) where
             elim (cases_lt (place_of f a) n) as (λ _. n ≤ place_of f a) [
               | inl early ↦ absurd (
                   let j = g.sound a e in
-                  let some = p.early a i early (linked_end taken s a j) in
-                  some (p.whole a s (omega (arith, some)) (linked_sym taken s a j) ∙ o.free))
+                  let some = p.early a i early (linked_end (IsFree taken) s a j) in
+                  some (p.whole a s (omega (arith, some)) (linked_sym (IsFree taken) s a j) ∙ o.free))
               | inr late ↦ late
             ],
           ))
@@ -167,7 +167,7 @@ module _ (f : Frame) (taken : Cell → Bool) (outer : ℕ) where
     few = p.few;
     most = omega (arith, p.counted, past);
     same = p.same;
-    whole = λ a b j. let ne = numbered a (linked_start taken a b j) in p.whole a b (omega (arith, ne)) j;
+    whole = λ a b j. let ne = numbered a (linked_start (IsFree taken) a b j) in p.whole a b (omega (arith, ne)) j;
     order = p.order;
     present = λ u low high. let q = p.present u low high in (q.0, q.1.2);
   }

@@ -8,16 +8,17 @@ use borrow.Author.Differences.{ints}
 use Rattle.board_base.specs.declared.places.Cell.{Cell}
 use Rattle.board_base.specs.Lattice.{IsBeside}
 use Rattle.cell_grid.specs.declared.frames.Frame.{Frame}
-use Rattle.cell_grid.specs.Place.{InFrame, IsBetween, place_of, row_of, column_of, cells_of}
+use Rattle.cell_grid.specs.Place.{InFrame, place_of, row_of, column_of, cells_of}
 use Rattle.cell_grid.specs.Cells.{in_frame, number_in, IsOnBorder}
-use Rattle.cell_grid.specs.Chains.{IsLinked}
+use Rattle.cell_sets.specs.Chains.{IsLinked}
+use Rattle.cell_sets.proofs.CellLaws.{cell, beside_sym}
+use Rattle.cell_sets.proofs.Links.{IsFree, linked_sym, linked_trans, linked_step, linked_end, linked_start}
 use Rattle.cell_grid.proofs.PlaceLaws.{place_below, place_same}
-use Rattle.cell_grid.proofs.CellsLaws.{in_frame_is, in_frame_true, in_frame_false}
+use Rattle.cell_grid.proofs.CellsLaws.{in_frame_is, in_frame_true, in_frame_false, border_of}
 use Rattle.number_laws.proofs.Tests.{by_bool}
 use Rattle.cell_classes.specs.Floods.{IsOpen, IsReady, IsReached, IsFlooded}
 use Rattle.cell_classes.specs.Classes.{IsBegun, IsEdge, IsSeeded}
-use Rattle.cell_classes.proofs.Frames.{cell}
-use Rattle.cell_classes.proofs.Links.{beside_sym, linked_sym, linked_trans, linked_step, linked_end, linked_start, outside_linked}
+use Rattle.cell_classes.proofs.Links.{outside_linked}
 use Rattle.cell_classes.proofs.Numbers.{number_inside, number_outside, number_all, count_one, count_none, written_here, written_else, here_or_else, still, split}
 use Rattle.cell_classes.proofs.Flooding.{none_contained}
 
@@ -39,32 +40,6 @@ pub border_edge : (f : Frame) (c : Cell) (x y : ℕ) → c.i ≡ f.i0 +ℤ pos x
 border_edge f c x y i j b =
     subst (λ (n : ℕ). (n ≡ 0) ⊎ (n + 1 ≡ f.width) ⊎ (y ≡ 0) ⊎ (y + 1 ≡ f.height)) (column_is f c x i)
     (subst (λ (n : ℕ). (column_of f c ≡ 0) ⊎ (column_of f c + 1 ≡ f.width) ⊎ (n ≡ 0) ⊎ (n + 1 ≡ f.height)) (row_is f c y j) b.edge)
-
--- a cell of the frame with a neighbour outside stands on the border
-pub border_of : (f : Frame) (c d : Cell) → InFrame f c → in_frame f d ≡ false → IsBeside c d → IsOnBorder f c
-border_of f c d h out s = record {
-  inside = in_frame_true f c h;
-  edge =
-      elim (cases_eq (column_of f c) 0) as (λ _. (column_of f c ≡ 0) ⊎ (column_of f c + 1 ≡ f.width) ⊎ (row_of f c ≡ 0) ⊎ (row_of f c + 1 ≡ f.height)) [
-        | inl e ↦ inl e
-        | inr n1 ↦ elim (cases_eq (column_of f c + 1) f.width) as (λ _. (column_of f c ≡ 0) ⊎ (column_of f c + 1 ≡ f.width) ⊎ (row_of f c ≡ 0) ⊎ (row_of f c + 1 ≡ f.height)) [
-          | inl e ↦ inr (inl e)
-          | inr n2 ↦ elim (cases_eq (row_of f c) 0) as (λ _. (column_of f c ≡ 0) ⊎ (column_of f c + 1 ≡ f.width) ⊎ (row_of f c ≡ 0) ⊎ (row_of f c + 1 ≡ f.height)) [
-            | inl e ↦ inr (inr (inl e))
-            | inr n3 ↦ elim (cases_eq (row_of f c + 1) f.height) as (λ _. (column_of f c ≡ 0) ⊎ (column_of f c + 1 ≡ f.width) ⊎ (row_of f c ≡ 0) ⊎ (row_of f c + 1 ≡ f.height)) [
-              | inl e ↦ inr (inr (inr e))
-              | inr n4 ↦ absurd (false≢true (sym out ∙ in_frame_true f d (record {
-                column = inner c.i d.i f.i0 f.width h.column.low h.column.high n1 n2 s.west s.east;
-                row = inner c.j d.j f.j0 f.height h.row.low h.row.high n3 n4 s.south s.north;
-              })))
-            ]
-          ]
-        ]
-      ];
-}
-  where
-    inner : (i i' i0 : ℤ) (w : ℕ) → i0 ≤ℤ i → i <ℤ (i0 +ℤ pos w) → unsigned_abs (i -ℤ i0) ≢ 0 → unsigned_abs (i -ℤ i0) + 1 ≢ w → (i -ℤ i') ≤ℤ pos 1 → (i' -ℤ i) ≤ℤ pos 1 → IsBetween i' i0 w
-    inner i i' i0 w a b m n low high = record { low = omega (arith, ints); high = omega (arith, ints) }
 
 pub record HasOuter (f : Frame) (c : Cell) : Type 0 where
   pub outside : Cell
@@ -219,14 +194,14 @@ module _ (f : Frame) (taken : Cell → Bool) where
 
     goes_out : (works : List ℕ) (waiting : List Cell) (put : ℕ) (c : Cell) → IsSeeded f taken works waiting put → IsReached f taken 1 works 1 c → GoesOut c
     goes_out works waiting put c p r =
-        let back = linked_sym taken r.from c r.linked in
+        let back = linked_sym (IsFree taken) r.from c r.linked in
         by_bool (in_frame f r.from)
         (λ i.
         let x = outer_of f r.from (p.own r.from i r.own).1 in
         record {
           outside = x.outside;
           out = x.out;
-          linked = linked_trans taken c r.from x.outside back (linked_step taken r.from x.outside (linked_start taken r.from c r.linked) x.beside (taken_out x.outside x.out));
+          linked = linked_trans (IsFree taken) c r.from x.outside back (linked_step (IsFree taken) r.from x.outside (linked_start (IsFree taken) r.from c r.linked) x.beside (taken_out x.outside x.out));
         })
         (λ o. record { outside = r.from; out = o; linked = back })
 
@@ -239,7 +214,7 @@ module _ (f : Frame) (taken : Cell → Bool) where
         elim (cases_eq (number_in f 1 new a) 1) as (λ _. number_in f 1 new a ≡ 1) [ inl e ↦ e | inr ne ↦ absurd (omega (arith, zero_or a ne, s)) ] in
         record {
           clear = λ a k. elim (cases_eq (number_in f 1 new a) 1) as (λ _. number_in f 1 new a ≡ 0) [
-            | inl e ↦ absurd (let r = g.sound a e in false≢true (sym k ∙ linked_end taken r.from a r.linked))
+            | inl e ↦ absurd (let r = g.sound a e in false≢true (sym k ∙ linked_end (IsFree taken) r.from a r.linked))
             | inr ne ↦ zero_or a ne
           ];
           few = λ a. elim (cases_eq (number_in f 1 new a) 1) as (λ _. number_in f 1 new a ≤ 1) [
@@ -250,10 +225,10 @@ module _ (f : Frame) (taken : Cell → Bool) where
               let one = one_if a some in
               let u = goes_out works waiting put a p (g.sound a one) in
               let v = goes_out works waiting put b p (g.sound b (sym e ∙ one)) in
-              linked_trans taken a u.outside b u.linked
-              (linked_trans taken u.outside v.outside b (outside_linked f taken taken_out u.outside v.outside u.out v.out) (linked_sym taken b v.outside v.linked));
+              linked_trans (IsFree taken) a u.outside b u.linked
+              (linked_trans (IsFree taken) u.outside v.outside b (outside_linked f taken taken_out u.outside v.outside u.out v.out) (linked_sym (IsFree taken) b v.outside v.linked));
           whole = λ a b some j.
               let one = one_if a some in
               let r = g.sound a one in
-              one ∙ sym (g.complete b (record { from = r.from; own = r.own; linked = linked_trans taken r.from a b r.linked j }));
+              one ∙ sym (g.complete b (record { from = r.from; own = r.own; linked = linked_trans (IsFree taken) r.from a b r.linked j }));
         }

@@ -5,7 +5,7 @@ use Rattle.board_base.specs.declared.places.Cell.{Cell}
 use Rattle.cell_grid.specs.declared.frames.Frame.{Frame}
 use Rattle.cell_grid.specs.Place.{cells_of}
 use Rattle.cell_grid.specs.Cells.{in_frame, number_in, IsOnBorder}
-use Rattle.cell_grid.specs.Chains.{IsBefore, IsLinked}
+use Rattle.cell_sets.specs.Chains.{IsBefore, IsLinked}
 
 -- no number is above `outer`, and the cells that have a number are one whole class
 pub record IsBegun (f : Frame) (taken : Cell → Bool) (outer : ℕ) (works : List ℕ) : Type 0 where

@@ -7,7 +7,7 @@ use Rattle.cell_grid.specs.declared.frames.Frame.{Frame}
 use Rattle.cell_grid.specs.Place.{place_of}
 use Rattle.cell_grid.specs.Grid.{Grid}
 use Rattle.cell_grid.specs.Cells.{in_frame, number_in}
-use Rattle.cell_grid.specs.Chains.{IsLinked}
+use Rattle.cell_sets.specs.Chains.{IsLinked}
 
 -- nothing but the working labels and the queue changed
 abbrev pub ChangesNumbers : Grid → Grid → Type 0

@@ -8,9 +8,3 @@ pub mod Grid
 pub mod PlaneBits
 pub mod Planes
 pub mod Cells
-pub mod Chains
-pub mod Islands
-pub mod Groups
-pub mod Sweep
-pub mod Clearance
-pub mod Count

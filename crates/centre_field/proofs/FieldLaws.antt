@@ -8,7 +8,7 @@ use Rattle.board_base.specs.Lattice.{dist2}
 use Rattle.cell_grid.specs.declared.frames.Frame.{Frame}
 use Rattle.cell_grid.specs.Place.{InFrame, IsBetween, place_of, row_of, column_of, cells_of, cell_of_place}
 use Rattle.cell_grid.specs.Cells.{in_frame, in_plane, number_in}
-use Rattle.cell_grid.specs.Clearance.{IsClearance}
+use Rattle.cell_sets.specs.Clearance.{IsClearance}
 use Rattle.cell_grid.proofs.PlaceLaws.{place_below}
 use Rattle.cell_grid.proofs.CellsLaws.{in_frame_is, in_frame_true, cell_in, place_cell}
 use Rattle.centre_field.specs.Distances.{square_gap, square_to_place, IsLeast, is_kept_at}

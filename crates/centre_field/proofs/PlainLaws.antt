@@ -6,7 +6,7 @@ use Rattle.cell_grid.specs.declared.frames.Frame.{Frame}
 use Rattle.cell_grid.specs.Grid.{Grid}
 use Rattle.cell_grid.specs.Place.{InFrame, place_of, column_of, row_of, cells_of}
 use Rattle.cell_grid.specs.Cells.{in_plane, number_in}
-use Rattle.cell_grid.specs.Clearance.{IsClearance}
+use Rattle.cell_sets.specs.Clearance.{IsClearance}
 use Rattle.cell_grid.proofs.PlaceLaws.{place_below}
 use Rattle.centre_field.specs.Distances.{IsLeast, IsLeastSquare, is_kept_at, square_to_place}
 use Rattle.centre_field.proofs.FieldLaws.{field_is_clearance, column_at_place, row_at_place}

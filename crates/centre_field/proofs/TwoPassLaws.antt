@@ -7,7 +7,7 @@ use Rattle.cell_grid.specs.declared.frames.Frame.{Frame}
 use Rattle.cell_grid.specs.Grid.{Grid}
 use Rattle.cell_grid.specs.Place.{IsFrame, InFrame, place_of, row_of, column_of, cells_of}
 use Rattle.cell_grid.specs.Cells.{in_plane, number_in}
-use Rattle.cell_grid.specs.Clearance.{IsClearance}
+use Rattle.cell_sets.specs.Clearance.{IsClearance}
 use Rattle.centre_field.specs.Distances.{none, square_gap, square_to_place, is_kept_at, IsLeastSquare}
 use Rattle.centre_field.specs.Columns.{IsNearest, number_at, AreNearest}
 use Rattle.centre_field.specs.Rows.{value_at, AreDistances, IsLeastInRow, AreLeastInRows}

@@ -3,7 +3,7 @@ ghost use Rattle.std.specs.Prelude.{◌≡◌, ◌<◌, ℕ};
 ghost use Rattle.board_base.specs.declared.places.Cell.{Cell};
 ghost use Rattle.cell_grid.specs.Place.{InFrame};
 ghost use Rattle.cell_grid.specs.Cells.{in_plane, number_in};
-ghost use Rattle.cell_grid.specs.Clearance.{IsClearance};
+ghost use Rattle.cell_sets.specs.Clearance.{IsClearance};
 
 use crate::columns::sweep_columns;
 use crate::rows::finish_rows;

@@ -3,7 +3,7 @@ ghost use Rattle.std.specs.Prelude.{◌≡◌, ◌<◌};
 ghost use Rattle.board_base.specs.declared.places.Cell.{Cell};
 ghost use Rattle.cell_grid.specs.Place.{InFrame};
 ghost use Rattle.cell_grid.specs.Cells.{in_plane, number_in};
-ghost use Rattle.cell_grid.specs.Clearance.{IsClearance};
+ghost use Rattle.cell_sets.specs.Clearance.{IsClearance};
 ghost use Rattle.centre_field.specs.Distances.{IsLeastSquare};
 
 use crate::gaps::square_gap;

@@ -3,7 +3,7 @@ ghost use Rattle.std.specs.Prelude.{◌≡◌, ◌≤◌, replicate, IfOk, IfErr
 ghost use Rattle.board_base.specs.declared.places.Cell.{Cell};
 ghost use Rattle.cell_grid.specs.Place.{cells_of};
 ghost use Rattle.cell_grid.specs.Cells.{in_plane, number_in};
-ghost use Rattle.cell_grid.specs.Islands.{AreIslands, AreMoreIslands};
+ghost use Rattle.cell_sets.specs.Islands.{AreIslands, AreMoreIslands};
 
 use cell_classes::number_classes;
 use cell_grid::{Plane, Workbench, cell_at};

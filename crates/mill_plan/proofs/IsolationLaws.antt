@@ -3,13 +3,13 @@ use Rattle.std.proofs.Common.{◌≡◌, ℕ, Bool, List, length, Result, Ok, Er
 use Rattle.board_base.specs.declared.places.Cell.{Cell}
 use Rattle.board_base.specs.declared.places.Move.{Move}
 use Rattle.board_base.specs.Lattice.{IsHalfDiagonal, half_diagonal_of}
-use Rattle.board_base.specs.Contour.{IsContour}
-use Rattle.cell_grid.specs.Islands.{AreMoreIslands}
-use Rattle.cell_grid.specs.Sweep.{IsUnswept}
+use Rattle.cell_sets.specs.Contour.{IsContour}
+use Rattle.cell_sets.specs.Islands.{AreMoreIslands}
+use Rattle.cell_sets.specs.Sweep.{IsUnswept}
 use Rattle.cell_grid.specs.Cells.{in_plane}
 use Rattle.cell_grid.specs.Grid.{Grid}
-use Rattle.separation_laws.specs.Reached.{ScaledSweep}
-use Rattle.separation_laws.proofs.Links.{linked_over}
+use Rattle.cell_sets.specs.Reached.{ScaledSweep}
+use Rattle.cell_sets.proofs.Links.{linked_over}
 use Rattle.shape_parts.specs.declared.shape.Painted.{Painted}
 use Rattle.shape_parts.specs.Cover.{CoverLaw}
 use Rattle.rs274_sim.specs.Runs.{RunsTo}

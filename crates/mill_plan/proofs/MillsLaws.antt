@@ -9,13 +9,13 @@ use Rattle.number_laws.proofs.Ring.{var, num, add, mul, ring}
 use Rattle.number_laws.proofs.Order.{square_nonneg, mul_pos, mul_le_left}
 use Rattle.number_laws.proofs.Quotients.{rounded_low, rounded_high}
 use Rattle.plane_geom.specs.NearStep.{length2}
-use Rattle.separation_laws.specs.Reached.{IsReachedFrom, in_unit, ScaledSweep}
+use Rattle.cell_sets.specs.Reached.{IsReachedFrom, in_unit, ScaledSweep}
 use Rattle.board_base.specs.declared.places.Point.{Point}
 use Rattle.board_base.specs.declared.places.Cell.{Cell}
 use Rattle.board_base.specs.declared.places.Move.{Move}
 use Rattle.board_base.specs.Lattice.{IsHalfDiagonal, centre_of, cell_of, half_diagonal_of}
 use Rattle.board_base.specs.Near.{near_of}
-use Rattle.board_base.specs.Contour.{IsContour, guard_of, reach_of}
+use Rattle.cell_sets.specs.Contour.{IsContour, guard_of, reach_of}
 use Rattle.shape_parts.specs.declared.shape.Painted.{Painted}
 use Rattle.shape_parts.specs.Cover.{is_dark, CoverLaw}
 use Rattle.rs274_sim.specs.Cutter.{nanometre, scaled, under, width_of, IsLow, IsDeep, Sweeps}

@@ -11,7 +11,7 @@ use Rattle.cell_grid.specs.declared.frames.Frame.{Frame}
 use Rattle.cell_grid.specs.Place.{InFrame, place_of, cell_of_place}
 use Rattle.cell_grid.specs.Grid.{Grid}
 use Rattle.cell_grid.specs.Cells.{in_frame}
-use Rattle.cell_grid.specs.Chains.{IsClasses}
+use Rattle.cell_sets.specs.Chains.{IsClasses}
 use Rattle.cell_grid.proofs.PlaceLaws.{place_same, cell_of_place-place_of}
 use Rattle.cell_grid.proofs.CellsLaws.{in_frame_true}
 use Rattle.separation_check.specs.declared.meetings.Meeting.{Meeting}

@@ -8,40 +8,11 @@ use Rattle.board_base.specs.Lattice.{IsBeside}
 use Rattle.cell_grid.specs.declared.frames.Frame.{Frame}
 use Rattle.cell_grid.specs.Place.{InFrame, IsBetween, column_of, row_of}
 use Rattle.cell_grid.specs.Cells.{in_frame, IsOnBorder}
-use Rattle.cell_grid.specs.Chains.{Chain, IsLinked}
-use Rattle.cell_grid.specs.Groups.{IsGroup, AreGroups}
-use Rattle.cell_grid.proofs.CellsLaws.{in_frame_is, in_frame_true}
+use Rattle.cell_sets.specs.Chains.{Chain, IsLinked}
+use Rattle.cell_sets.specs.Groups.{IsGroup, AreGroups}
+use Rattle.cell_grid.proofs.CellsLaws.{in_frame_is, in_frame_true, border_of}
 use Rattle.separation_check.specs.Laws.{AgreeInside, InnerChains, InnerGroups}
-use Rattle.separation_check.proofs.Links.{chain_end}
-
--- a cell of the frame with a neighbour outside stands on the border
-pub border_of : (f : Frame) (c d : Cell) → InFrame f c → in_frame f d ≡ false → IsBeside c d → IsOnBorder f c
-border_of f c d h out s = record {
-  inside = in_frame_true f c h;
-  edge =
-      elim (cases_eq (column_of f c) 0) as (λ _. Edge) [
-        | inl e ↦ inl e
-        | inr west ↦ elim (cases_eq (column_of f c + 1) f.width) as (λ _. Edge) [
-          | inl e ↦ inr (inl e)
-          | inr east ↦ elim (cases_eq (row_of f c) 0) as (λ _. Edge) [
-            | inl e ↦ inr (inr (inl e))
-            | inr south ↦ elim (cases_eq (row_of f c + 1) f.height) as (λ _. Edge) [
-              | inl e ↦ inr (inr (inr e))
-              | inr north ↦ absurd (false≢true (sym out ∙ in_frame_true f d (record {
-                column = inner c.i d.i f.i0 f.width h.column west east s.west s.east;
-                row = inner c.j d.j f.j0 f.height h.row south north s.south s.north;
-              })))
-            ]
-          ]
-        ]
-      ];
-}
-  where
-    Edge : Type 0
-    Edge = (column_of f c ≡ 0) ⊎ (column_of f c + 1 ≡ f.width) ⊎ (row_of f c ≡ 0) ⊎ (row_of f c + 1 ≡ f.height)
-
-    inner : (i i' i0 : ℤ) (w : ℕ) → IsBetween i i0 w → unsigned_abs (i -ℤ i0) ≢ 0 → unsigned_abs (i -ℤ i0) + 1 ≢ w → (i -ℤ i') ≤ℤ pos 1 → (i' -ℤ i) ≤ℤ pos 1 → IsBetween i' i0 w
-    inner i i' i0 w b n m low high = record { low = omega (arith, ints, b.low, b.high); high = omega (arith, ints, b.low, b.high) }
+use Rattle.cell_sets.proofs.Links.{chain_end}
 
 module _ (f : Frame) (t u : Cell → Bool) (p : AgreeInside f t u) where
   stays_in : (a b : Cell) (n : ℕ) → in_frame f a ≡ true → Chain (λ c. t c ≡ true) a b n → in_frame f b ≡ true

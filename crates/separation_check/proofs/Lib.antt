@@ -1,5 +1,4 @@
 pub mod Sweeping
-pub mod Links
 pub mod Pairs
 pub mod Inner
 pub mod Tables

@@ -9,14 +9,14 @@ use Rattle.cell_grid.specs.declared.frames.Frame.{Frame}
 use Rattle.cell_grid.specs.Grid.{Grid}
 use Rattle.cell_grid.specs.Place.{place_of, cell_of_place, cells_of}
 use Rattle.cell_grid.specs.Cells.{in_frame}
-use Rattle.cell_grid.specs.Chains.{IsBefore, IsLinked, IsClasses}
-use Rattle.cell_grid.specs.Groups.{IsGroup, AreGroups}
+use Rattle.cell_sets.specs.Chains.{IsBefore, IsLinked, IsClasses}
+use Rattle.cell_sets.specs.Groups.{IsGroup, AreGroups}
 use Rattle.cell_grid.proofs.PlaceLaws.{place_below}
 use Rattle.cell_grid.proofs.CellsLaws.{in_frame_is, before}
 use Rattle.separation_check.specs.Unswept.{island_of}
 use Rattle.separation_check.specs.Meetings.{IsMet, IsNoted, AreMeetings}
 use Rattle.separation_check.specs.Grouping.{at, AreSome, Found, IsFound, AreAllFound}
-use Rattle.separation_check.proofs.Links.{chain_start, chain_end}
+use Rattle.cell_sets.proofs.Links.{chain_start, chain_end}
 use Rattle.separation_check.proofs.Rows.{before_less}
 use Rattle.separation_check.proofs.Tables.{rise, island_in}
 

@@ -2,9 +2,9 @@
 use Rattle.std.proofs.Common.{◌≡◌, ◌≢◌, ◌↔◌, ℕ, ◌<◌, pos, true, List, [], get_or, sym, subst, ◌∙◌}
 use Rattle.std.specs.List.{Contains}
 use Rattle.board_base.specs.declared.places.Cell.{Cell}
-use Rattle.cell_grid.specs.Groups.{AreGroups, IsListedPair, AreJoined}
+use Rattle.cell_sets.specs.Groups.{AreGroups, IsListedPair, AreJoined}
 use Rattle.separation_check.specs.Laws.{PairLaw}
-use Rattle.separation_check.proofs.Links.{linked_sym, linked_trans}
+use Rattle.cell_sets.proofs.Links.{linked_sym, linked_trans}
 
 -- any cell
 some_cell : Cell

@@ -10,13 +10,13 @@ use Rattle.cell_grid.specs.declared.frames.Frame.{Frame}
 use Rattle.cell_grid.specs.Grid.{Grid}
 use Rattle.cell_grid.specs.Place.{IsFrame, InFrame, place_of, cells_of}
 use Rattle.cell_grid.specs.Cells.{in_frame}
-use Rattle.cell_grid.specs.Chains.{IsClasses}
+use Rattle.cell_sets.specs.Chains.{IsClasses}
 use Rattle.cell_grid.proofs.PlaceLaws.{place_below, place_same}
 use Rattle.cell_grid.proofs.CellsLaws.{in_frame_is, in_frame_true, in_frame_false}
 use Rattle.separation_check.specs.Unswept.{is_unswept, class_of}
 use Rattle.separation_check.specs.Tears.{IsFault, AreWhole}
-use Rattle.cell_classes.proofs.Links.{beside_sym}
-use Rattle.separation_check.proofs.Links.{linked_step}
+use Rattle.cell_sets.proofs.CellLaws.{beside_sym}
+use Rattle.cell_sets.proofs.Links.{linked_step}
 
 -- a test that says whether the cell is in the frame
 pub inside_is : (f : Frame) (c : Cell) (r : Bool) → IsTrue r ↔ InFrame f c → r ≡ in_frame f c

@@ -3,8 +3,8 @@ use Rattle.std.specs.Prelude.{◌≡◌, ◌≢◌, ◌↔◌, ℕ, ◌<◌, Boo
 use Rattle.board_base.specs.declared.places.Cell.{Cell}
 use Rattle.cell_grid.specs.declared.frames.Frame.{Frame}
 use Rattle.cell_grid.specs.Cells.{in_frame, IsOnBorder}
-use Rattle.cell_grid.specs.Chains.{IsLinked}
-use Rattle.cell_grid.specs.Groups.{AreGroups, IsListedPair, AreJoined}
+use Rattle.cell_sets.specs.Chains.{IsLinked}
+use Rattle.cell_sets.specs.Groups.{AreGroups, IsListedPair, AreJoined}
 
 -- a pair of islands stands in some group exactly where a chain of free cells joins it
 abbrev pub PairLaw : Type 0

@@ -1,8 +1,8 @@
 // The groups of islands that stand in one class.
 ghost use Rattle.std.specs.Prelude.{◌≡◌, ◌<◌, ◌≤◌, ℕ, true, false, not, List, IfOk, length, replicate, slice_index};
 ghost use Rattle.board_base.specs.declared.places.Cell.{Cell};
-ghost use Rattle.cell_grid.specs.Chains.{IsClasses};
-ghost use Rattle.cell_grid.specs.Groups.{AreGroups};
+ghost use Rattle.cell_sets.specs.Chains.{IsClasses};
+ghost use Rattle.cell_sets.specs.Groups.{AreGroups};
 ghost use Rattle.separation_check.specs.Unswept.{is_unswept, island_of, class_of};
 ghost use Rattle.separation_check.specs.Meetings.{islands_of, classes_of};
 ghost use Rattle.separation_check.specs.Grouping.{at, AreSome, IsTable, IsListed, IsMembers, AreInOrder, AreAllFound};

@@ -4,7 +4,7 @@ ghost use Rattle.board_base.specs.declared.places.Cell.{Cell};
 ghost use Rattle.board_base.specs.Lattice.{IsBeside};
 ghost use Rattle.cell_grid.specs.Place.{IsFrame, InFrame};
 ghost use Rattle.cell_grid.specs.Cells.{in_plane, in_frame, number_in};
-ghost use Rattle.cell_grid.specs.Chains.{IsClasses};
+ghost use Rattle.cell_sets.specs.Chains.{IsClasses};
 ghost use Rattle.separation_check.specs.Unswept.{is_unswept, class_of};
 ghost use Rattle.separation_check.specs.Tears.{IsFault, AreWhole};
 

@@ -2,7 +2,7 @@
 ghost use Rattle.std.specs.Prelude.{◌≡◌, ◌≢◌, ◌⊎◌, ◌<◌, ◌++◌, ◌∷◌, [], ℕ, false, not, cond, IfOk, length, replicate, slice_index, slice_index_or, slice_set};
 ghost use Rattle.board_base.specs.declared.places.Cell.{Cell};
 ghost use Rattle.cell_grid.specs.Place.{InFrame, place_of, cells_of};
-ghost use Rattle.cell_grid.specs.Chains.{IsClasses};
+ghost use Rattle.cell_sets.specs.Chains.{IsClasses};
 ghost use Rattle.separation_check.specs.Unswept.{is_unswept, island_of, class_of};
 ghost use Rattle.separation_check.specs.Meetings.{AreMeetings, islands_of, classes_of};
 

@@ -1,6 +1,6 @@
 use Rattle.std.proofs.Common.{sym, subst}
 use Rattle.cell_grid.specs.Grid.{Grid}
-use Rattle.cell_grid.specs.Chains.{IsClasses}
+use Rattle.cell_sets.specs.Chains.{IsClasses}
 use Rattle.separation_check.specs.Unswept.{is_unswept, class_of}
 use Rattle.separation_check.proofs.labels.relabel.Goals as goal
 

@@ -1,0 +1,11 @@
+pub mod Chains
+pub mod Islands
+pub mod Groups
+pub mod Sweep
+pub mod Clearance
+pub mod Count
+pub mod Contour
+pub mod Barrier
+pub mod Reached
+pub mod Cleared
+pub mod Passes

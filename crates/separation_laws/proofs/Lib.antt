@@ -1,4 +1,0 @@
-pub mod Links
-pub mod Barriers
-pub mod Sweeps
-pub mod Counts

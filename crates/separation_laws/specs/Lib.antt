@@ -1,3 +1,0 @@
-pub mod Barrier
-pub mod Reached
-pub mod Counts
