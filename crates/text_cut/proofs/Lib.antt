@@ -1,0 +1,3 @@
+pub mod PositionLaws
+mod LineLaws
+mod SpaceLaws
