@@ -1,7 +1,7 @@
 -- The texts of apertures: a template, a comma, and values with the letter X between them.
 use Rattle.std.specs.Prelude.{ℕ, ◌*◌, ◌/◌, ◌%◌, ◌<◌, ◌^◌, ℤ, pos, negsuc, int_le, int_div, unsigned_abs, List, [], ◌∷◌, Bool, if◌then◌else◌, ◌&&◌, ◌==◌, nat_le, Result, Ok, Err}
 use Rattle.std.specs.List.{before_first, after_first, slice_split}
-use Rattle.board_base.specs.Steps.{◌>>=◌}
+use Rattle.board_base.specs.Binds.{◌>>=◌}
 use Rattle.fixed_num.specs.Angles.{in_turn}
 use Rattle.fixed_num.specs.Rounding.{round_div_of}
 use Rattle.fixed_num.specs.Values.{cut_at}

@@ -1,2 +1,4 @@
 pub mod FilesLaws
 pub mod DiagonalLaws
+pub mod LatticeLaws
+pub mod IndexLaws

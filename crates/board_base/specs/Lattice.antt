@@ -1,5 +1,5 @@
 -- The lattice of square cells.
-use Rattle.std.specs.Prelude.{◌≡◌, ◌≢◌, ℕ, zero, suc, ◌*◌, ◌≤◌, nat_le, ℤ, pos, ◌+ℤ◌, ◌-ℤ◌, ◌*ℤ◌, ◌≤ℤ◌, ◌<ℤ◌, unsigned_abs, Bool, if◌then◌else◌}
+use Rattle.std.specs.Prelude.{◌≡◌, ◌≢◌, ℕ, zero, suc, ◌*◌, ◌≤◌, ◌↔◌, nat_le, ℤ, pos, ◌+ℤ◌, ◌-ℤ◌, ◌*ℤ◌, ◌≤ℤ◌, ◌<ℤ◌, unsigned_abs, Bool, if◌then◌else◌}
 use Rattle.std.specs.Int.{int_div_euclid}
 use Rattle.board_base.specs.declared.places.Point.{Point}
 use Rattle.board_base.specs.declared.places.Cell.{Cell}
@@ -22,6 +22,22 @@ middle p i = i *ℤ p +ℤ half_of p
 -- the centre of a cell
 abbrev pub centre_of : ℤ → Cell → Point
 centre_of p c = record { x = middle p c.i; y = middle p c.j }
+
+-- a limit for columns and rows: at most 1 m for a coordinate, with 2 m for half of a width beside it
+abbrev pub IsLimit : ℤ → Type 0
+IsLimit v = unsigned_abs v ≤ 3000000000
+
+-- no column or row at such a limit has a larger index: 3 m and a cell of 0.2 mm, in cells of 250 nm
+abbrev pub most_index : ℕ
+most_index = 12000801
+
+-- a column or row is at `first` or past it exactly where its middle is at the limit or past it
+pub record IsFirst (p limit first : ℤ) : Type 0 where
+  pub all : (i : ℤ) → (first ≤ℤ i) ↔ (limit ≤ℤ middle p i)
+
+-- a column or row is at `last` or before it exactly where its middle is at the limit or before it
+pub record IsLast (p limit last : ℤ) : Type 0 where
+  pub all : (i : ℤ) → (i ≤ℤ last) ↔ (middle p i ≤ℤ limit)
 
 -- the cell that holds a point
 abbrev pub cell_of : ℤ → Point → Cell
@@ -68,3 +84,13 @@ pub record IsHalfDiagonal (p h : ℤ) : Type 0 where
   pub positive : pos 0 <ℤ h
   pub enough : (p *ℤ p) ≤ℤ (pos 2 *ℤ (h *ℤ h))
   pub least : (pos 2 *ℤ ((h -ℤ pos 1) *ℤ (h -ℤ pos 1))) <ℤ (p *ℤ p)
+
+-- a length that may stand for half the diagonal of a cell
+pub record IsCellReach (h : ℤ) : Type 0 where
+  pub low : pos 0 <ℤ h
+  pub high : h ≤ℤ pos 200000
+
+-- r is the quotient of n by p, rounded down
+pub record IsQuotient (n p r : ℤ) : Type 0 where
+  pub low : (p *ℤ r) ≤ℤ n
+  pub high : n <ℤ (p *ℤ r +ℤ p)

@@ -1,10 +1,9 @@
 pub mod Counts
 pub mod Files
 pub mod Shelf
-pub mod Kept
+pub mod Memory
 pub mod Sink
-pub mod Steps
-pub mod Parts
+pub mod Binds
 pub mod Places
 pub mod Near
 pub mod Lattice

@@ -1,5 +1,5 @@
 -- Distances of points from segments. A point may be in any unit of length, with the width in the same unit.
-use Rattle.std.specs.Prelude.{ℤ, pos, ◌+ℤ◌, ◌-ℤ◌, ◌*ℤ◌, ◌≤ℤ◌, Bool, cond, int_le}
+use Rattle.std.specs.Prelude.{ℤ, pos, ◌+ℤ◌, ◌-ℤ◌, ◌*ℤ◌, Bool, cond, int_le}
 use Rattle.board_base.specs.declared.places.Point.{Point}
 
 -- the inner product of two ways

@@ -1,5 +1,5 @@
 -- Which numbers may be places of the board, in nanometres.
-use Rattle.std.specs.Prelude.{ℤ, pos, neg_ℤ, ◌≤ℤ◌, Option, Some, None}
+use Rattle.std.specs.Prelude.{ℤ, pos, neg_ℤ, ◌≤ℤ◌, unsigned_abs, nat_le, Bool, Option, Some, None}
 use Rattle.board_base.specs.declared.places.Point.{Point}
 use Rattle.board_base.specs.declared.places.Bounds.{Bounds}
 
@@ -7,6 +7,10 @@ use Rattle.board_base.specs.declared.places.Bounds.{Bounds}
 pub record IsCoordinate (v : ℤ) : Type 0 where
   pub low : neg_ℤ (pos 500000000) ≤ℤ v
   pub high : v ≤ℤ pos 500000000
+
+-- whether a number is
+abbrev pub is_coordinate : ℤ → Bool
+is_coordinate v = nat_le (unsigned_abs v) 500000000
 
 -- the same of both coordinates of a point
 pub record IsPlace (p : Point) : Type 0 where
@@ -22,6 +26,11 @@ pub record IsNearCoordinate (v : ℤ) : Type 0 where
 pub record IsNearPlace (p : Point) : Type 0 where
   pub x_in : IsNearCoordinate p.x
   pub y_in : IsNearCoordinate p.y
+
+-- a width: the copper of a draw, or a cut with what is kept clear on its sides, is at most 4 m across
+pub record IsSpan (d : ℤ) : Type 0 where
+  pub low : pos 0 ≤ℤ d
+  pub high : d ≤ℤ pos 4000000000
 
 -- a rectangle whose sides are at most so far from zero
 pub record IsWithin (limit : ℤ) (b : Bounds) : Type 0 where

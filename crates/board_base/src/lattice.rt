@@ -1,6 +1,6 @@
-// Cells, their centres and the half of their diagonal.
-ghost use Rattle.std.specs.Prelude.{◌≡◌, ℤ, ℕ, pos, ◌+ℤ◌, ◌*ℤ◌, ◌≤ℤ◌, ◌<ℤ◌, ◌<◌, ◌≤◌, ◌+◌, ◌-◌, ◌*◌, ◌^◌, ◌/◌, unsigned_abs};
-ghost use Rattle.board_base.specs.Lattice.{half_of, middle as middle_of, centre_of, IsPitch, IsHalfDiagonal, half_diagonal_of, least_diagonal};
+// Cells, their centres, the half of their diagonal, and the columns and rows on one side of a limit.
+ghost use Rattle.std.specs.Prelude.{◌≡◌, ℤ, ℕ, pos, neg_ℤ, ◌+ℤ◌, ◌-ℤ◌, ◌*ℤ◌, ◌≤ℤ◌, ◌<ℤ◌, ◌<◌, ◌≤◌, ◌+◌, ◌-◌, ◌*◌, ◌^◌, ◌/◌, unsigned_abs};
+ghost use Rattle.board_base.specs.Lattice.{half_of, middle as middle_of, centre_of, IsPitch, IsHalfDiagonal, half_diagonal_of, least_diagonal, IsLimit, most_index, IsFirst, IsLast, IsQuotient};
 
 use crate::{Cell, Point};
 
@@ -73,4 +73,74 @@ pub fn centre(c: Cell, pitch: i64) -> Point
         x: middle(c.i, pitch),
         y: middle(c.j, pitch),
     }
+}
+
+// The quotient by the pitch, rounded down.
+fn quotient(n: i64, pitch: i64) -> i64
+    requires n { unsigned_abs n ≤ 3000200000 }
+    requires pitch { IsPitch pitch }
+    ensures value { IsQuotient n pitch result }
+    ensures size { unsigned_abs result ≤ most_index }
+{
+    n.div_euclid(pitch)
+}
+
+// The way from a limit to half a cell past the origin.
+fn way_back(limit: i64, pitch: i64) -> i64
+    requires limit { IsLimit limit }
+    requires pitch { IsPitch pitch }
+    ensures value { result ≡ half_of pitch -ℤ limit }
+    ensures size { unsigned_abs result ≤ 3000200000 }
+{
+    half(pitch) - limit
+}
+
+// The way from half a cell past the origin to a limit.
+fn way_to(limit: i64, pitch: i64) -> i64
+    requires limit { IsLimit limit }
+    requires pitch { IsPitch pitch }
+    ensures value { result ≡ limit -ℤ half_of pitch }
+    ensures size { unsigned_abs result ≤ 3000200000 }
+{
+    limit - half(pitch)
+}
+
+// A number of columns or rows as an index, the other way.
+fn turned(n: i64) -> i32
+    requires { unsigned_abs n ≤ most_index }
+    ensures value { result ≡ neg_ℤ n }
+    ensures size { unsigned_abs result ≤ most_index }
+{
+    -(n as i32)
+}
+
+// A number of columns or rows as an index.
+fn index(n: i64) -> i32
+    requires { unsigned_abs n ≤ most_index }
+    ensures value { result ≡ n }
+    ensures size { unsigned_abs result ≤ most_index }
+{
+    n as i32
+}
+
+/// The first column or row whose middle is at the limit or past it. Lengths are in nanometres.
+pub fn first_at(limit: i64, pitch: i64) -> i32
+    requires limit { IsLimit limit }
+    requires pitch { IsPitch pitch }
+    ensures first { IsFirst pitch limit result }
+    ensures size { unsigned_abs result ≤ most_index }
+{
+    let n = way_back(limit, pitch);
+    turned(quotient(n, pitch))
+}
+
+/// The last column or row whose middle is at the limit or before it. Lengths are in nanometres.
+pub fn last_at(limit: i64, pitch: i64) -> i32
+    requires limit { IsLimit limit }
+    requires pitch { IsPitch pitch }
+    ensures last { IsLast pitch limit result }
+    ensures size { unsigned_abs result ≤ most_index }
+{
+    let n = way_to(limit, pitch);
+    index(quotient(n, pitch))
 }

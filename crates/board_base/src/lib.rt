@@ -13,11 +13,11 @@ mod shelf;
 mod sink;
 
 pub use items::Items;
-pub use lattice::{centre, half_diagonal};
+pub use lattice::{centre, first_at, half_diagonal, last_at};
 pub use memory::{MemoryShelf, SteadyShelf};
 pub use memory_sink::{MemorySink, SteadySink};
 pub use name::Name;
-pub use places::{Bounds, Cell, CellBox, Move, MoveKind, Point, Pos, Role, Side};
+pub use places::{Bounds, Cell, CellBox, Move, MoveKind, Point, Pos, Role, Side, is_coordinate};
 pub use shelf::{Shelf, ShelfError};
 pub use sink::{Sink, SinkError};
 

@@ -16,7 +16,7 @@ pub struct MemorySink {
 }
 
 impl MemorySink {
-    ghost use Rattle.board_base.specs.Kept.{sink_bytes, sink_state, new_sink, no_plan, puts_of};
+    ghost use Rattle.board_base.specs.Memory.{sink_bytes, sink_state, new_sink, no_plan, puts_of};
 
     /// A sink that got nothing. It keeps the allocator, and takes no memory.
     pub fn new(alloc: Global) -> MemorySink
@@ -48,7 +48,7 @@ impl MemorySink {
 }
 
 impl Sink for MemorySink {
-    ghost use Rattle.board_base.specs.Kept.{sink_state, puts_of, next_call, is_to_fail};
+    ghost use Rattle.board_base.specs.Memory.{sink_state, puts_of, next_call, is_to_fail};
 
     ghost state = { λ s. sink_state s };
 
@@ -85,7 +85,7 @@ pub struct SteadySink {
 }
 
 impl SteadySink {
-    ghost use Rattle.board_base.specs.Kept.{steady_bytes};
+    ghost use Rattle.board_base.specs.Memory.{steady_bytes};
 
     /// A sink that got nothing. It keeps the allocator, and takes no memory.
     pub fn new(alloc: Global) -> SteadySink
@@ -106,7 +106,7 @@ impl SteadySink {
 
 impl Sink for SteadySink {
     ghost use Rattle.std.specs.Prelude.{Some};
-    ghost use Rattle.board_base.specs.Kept.{steady_bytes};
+    ghost use Rattle.board_base.specs.Memory.{steady_bytes};
 
     ghost state = { λ s. record { text = Some (steady_bytes s); faults = 0 } };
 

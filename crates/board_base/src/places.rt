@@ -1,4 +1,17 @@
 // Places on the board, moves over it, and the files that a command names.
+ghost use Rattle.std.specs.Prelude.{◌≡◌, ◌↔◌, true};
+ghost use Rattle.board_base.specs.Places.{IsCoordinate, is_coordinate as is_coordinate_of};
+
+// The largest coordinate, in nanometres.
+const MOST_COORDINATE: u128 = 500_000_000;
+
+/// Whether a number of nanometres is a coordinate of the board: at most 500 mm in size.
+pub fn is_coordinate(v: i128) -> bool
+    ensures value { result ≡ is_coordinate_of v }
+    ensures inside { (result ≡ true) ↔ IsCoordinate v }
+{
+    v.unsigned_abs() <= MOST_COORDINATE
+}
 
 /// A point of the board, in nanometres.
 #[derive(Clone, Copy, Debug, PartialEq, Eq)]

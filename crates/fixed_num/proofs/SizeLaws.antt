@@ -7,7 +7,7 @@ use Rattle.std.proofs.lemmas.Int.Digits.{digits_value-lt}
 use Rattle.std.proofs.lemmas.List.{length-take, length-append}
 use Rattle.std.proofs.lemmas.Nat.{pow-add}
 use Rattle.std.proofs.Math.Nat.{pow-le-pow_right}
-use Rattle.board_base.specs.Steps.{◌>>=◌}
+use Rattle.board_base.specs.Binds.{◌>>=◌}
 use Rattle.fixed_num.specs.Decimal.{Sign, none, plus, minus, signed, Decimal, fraction_of, IsDecimal, value_at}
 use Rattle.fixed_num.specs.Spelled.{parts_of, is_decimal, decimal_of}
 use Rattle.fixed_num.specs.Values.{a_number, not_long, short_of, cut_at}

@@ -5,7 +5,7 @@ use Rattle.std.proofs.lemmas.Grind.{common_steps}
 use Rattle.fixed_num.specs.Decimal.{Decimal, value_at}
 use Rattle.fixed_num.specs.Spelled.{decimal_of}
 use Rattle.fixed_num.specs.declared.number.NumError.TheVariants.{TooLong}
-use Rattle.board_base.specs.Steps.{◌>>=◌}
+use Rattle.board_base.specs.Binds.{◌>>=◌}
 use Rattle.fixed_num.specs.Values.{a_number, not_long, short_of, cut_at}
 
 in_length : (n : ℕ) → n ≤ 18 → nat_lt 18 n ≡ false

@@ -1,7 +1,7 @@
 -- The numbers that decimals are, in units of a power of ten.
 use Rattle.std.specs.Prelude.{◌↔◌, ℕ, ◌-◌, ◌≤◌, ℤ, List, length, Bool, if◌then◌else◌, ◌==◌, nat_lt, Option, Some, None, Result, Ok, Err}
 use Rattle.std.specs.List.{suffix_len}
-use Rattle.board_base.specs.Steps.{◌>>=◌}
+use Rattle.board_base.specs.Binds.{◌>>=◌}
 use Rattle.fixed_num.specs.Decimal.{Decimal, fraction_of, value_at, EndsBy}
 use Rattle.fixed_num.specs.Spelled.{decimal_of}
 use Rattle.fixed_num.specs.declared.number.NumError.{NumError}

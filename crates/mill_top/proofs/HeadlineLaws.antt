@@ -8,7 +8,7 @@ use Rattle.board_base.specs.declared.places.Move.{Move}
 use Rattle.board_base.specs.Files.{Files}
 use Rattle.board_base.specs.Shelf.{ShelfState}
 use Rattle.board_base.specs.Sink.{SinkState}
-use Rattle.board_base.specs.Steps.{◌>>=◌}
+use Rattle.board_base.specs.Binds.{◌>>=◌}
 use Rattle.shape_parts.specs.declared.shape.Painted.{Painted}
 use Rattle.rs274_sim.specs.declared.line.Line.{Line}
 use Rattle.rs274_sim.specs.Runs.{Runs, RunsTo}

@@ -1,4 +1,4 @@
-use Rattle.std.proofs.Common.{rules, sym, ◌/◌}
+use Rattle.std.proofs.Common.{sym, ◌/◌}
 use Rattle.board_base.proofs.DiagonalLaws.{IsRoot, root_is, root_enough, root_least, root_high}
 use Rattle.board_base.proofs.lattice.diagonal.Goals as goal
 

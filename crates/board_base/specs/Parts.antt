@@ -1,8 +1,0 @@
--- Parts that may be missing, one after another.
-use Rattle.std.specs.Prelude.{Option, Some, None}
-
-infixl 10 ◌>>=◌
--- what the next part makes of this one, where both are there
-abbrev pub ◌>>=◌ : {A B : Type 0} → Option A → (A → Option B) → Option B
-(Some x) >>= f = f x
-None >>= f = None
