@@ -4,7 +4,7 @@ use Rattle.std.specs.Prelude.{unsigned_abs, nat_le, cond, ◌&&◌}
 use Rattle.std.specs.List.{All}
 use borrow.Author.Differences.{ints}
 use Rattle.std.proofs.lemmas.Grind.{common_steps}
-use Rattle.board_base.specs.Binds.{◌>>?◌}
+use Rattle.board_base.specs.OptionBinds.{◌>>=◌}
 use Rattle.board_base.specs.Places.{IsCoordinate, IsPlace}
 use Rattle.board_base.specs.declared.places.Point.{Point}
 use Rattle.fixed_num.specs.Angles.{in_turn, in_range, point_at}
@@ -48,24 +48,24 @@ point_stays p h = stays_at p.x p.y h.x h.y
 all_stay : {X : Type 0} (P : X → Type 0) (move : X → Option X) → ((x : X) → P x → move x ≡ Some x) → (xs : List X) → All P xs → all_moved move xs ≡ Some xs
 all_stay P move stays [] all = refl
 all_stay P move stays (x ∷ xs) all =
-    ap (λ o. o >>? (λ y. all_moved move xs >>? (λ ys. Some (y ∷ ys)))) (stays x (all 0 x (omega arith)))
-    ∙ ap (λ o. o >>? (λ ys. Some (x ∷ ys))) (all_stay P move stays xs (λ k d h. all (suc k) d (omega (arith, h))))
+    ap (λ o. o >>= (λ y. all_moved move xs >>= (λ ys. Some (y ∷ ys)))) (stays x (all 0 x (omega arith)))
+    ∙ ap (λ o. o >>= (λ ys. Some (x ∷ ys))) (all_stay P move stays xs (λ k d h. all (suc k) d (omega (arith, h))))
 
 loops_stay : (loops : List (List Point)) → All (All IsPlace) loops → moved_loops still loops ≡ Some loops
 loops_stay loops all = all_stay (All IsPlace) (moved_points still) (all_stay IsPlace still point_stays) loops all
 
 part_stays : (p : Part) → IsBounded p → moved_part still p ≡ Some p
-part_stays (Disc c d) h = ap (λ o. o >>? (λ c. Some (Disc c d))) (point_stays c h.0)
+part_stays (Disc c d) h = ap (λ o. o >>= (λ c. Some (Disc c d))) (point_stays c h.0)
 part_stays (Capsule a b d) h =
-    ap (λ o. o >>? (λ a. still b >>? (λ b. Some (Capsule a b d)))) (point_stays a h.0)
-    ∙ ap (λ o. o >>? (λ b. Some (Capsule a b d))) (point_stays b h.1)
-part_stays (Area loops) h = ap (λ o. o >>? (λ l. Some (Area l))) (loops_stay loops h)
+    ap (λ o. o >>= (λ a. still b >>= (λ b. Some (Capsule a b d)))) (point_stays a h.0)
+    ∙ ap (λ o. o >>= (λ b. Some (Capsule a b d))) (point_stays b h.1)
+part_stays (Area loops) h = ap (λ o. o >>= (λ l. Some (Area l))) (loops_stay loops h)
 
 pieces_stay : (ps : List Piece) → All IsBoundedPiece ps → moved_pieces still ps ≡ Some ps
 pieces_stay [] all = refl
 pieces_stay (p ∷ ps) all =
-    ap (λ o. o >>? (λ part. moved_pieces still ps >>? (λ others. Some (record { part = part; on = p.on } ∷ others)))) (part_stays p.part (all 0 p (omega arith)))
-    ∙ ap (λ o. o >>? (λ others. Some (p ∷ others))) (pieces_stay ps (λ k d h. all (suc k) d (omega (arith, h))))
+    ap (λ o. o >>= (λ part. moved_pieces still ps >>= (λ others. Some (record { part = part; on = p.on } ∷ others)))) (part_stays p.part (all 0 p (omega arith)))
+    ∙ ap (λ o. o >>= (λ others. Some (p ∷ others))) (pieces_stay ps (λ k d h. all (suc k) d (omega (arith, h))))
 
 pub origin_law : OriginLaw
 unfolding placed

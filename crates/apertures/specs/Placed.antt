@@ -1,6 +1,6 @@
 -- Apertures at a place: mirrored, then turned, then shifted.
 use Rattle.std.specs.Prelude.{ℤ, neg_ℤ, ◌+ℤ◌, List, if◌then◌else◌, ◌==◌, Option, Some}
-use Rattle.board_base.specs.Binds.{◌>>?◌}
+use Rattle.board_base.specs.OptionBinds.{◌>>=◌}
 use Rattle.board_base.specs.declared.places.Point.{Point}
 use Rattle.fixed_num.specs.Angles.{in_turn, rotated, point_at}
 use Rattle.shape_parts.specs.declared.shape.Piece.{Piece}

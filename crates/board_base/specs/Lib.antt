@@ -4,6 +4,7 @@ pub mod Shelf
 pub mod Memory
 pub mod Sink
 pub mod Binds
+pub mod OptionBinds
 pub mod Places
 pub mod Near
 pub mod Lattice

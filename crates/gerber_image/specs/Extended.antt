@@ -5,7 +5,7 @@ use Rattle.std.specs.List.{list_all, list_any}
 use Rattle.std.specs.Option.{option_or}
 use Rattle.std.specs.Ordering.{int_eq}
 use Rattle.std.specs.Str.{bytes_eq}
-use Rattle.board_base.specs.Binds.{◌>>?◌}
+use Rattle.board_base.specs.OptionBinds.{◌>>=◌}
 use Rattle.fixed_num.specs.Angles.{in_turn}
 use Rattle.fixed_num.specs.Values.{read_at, cut_at}
 use Rattle.fixed_num.specs.declared.number.NumError.{NumError}

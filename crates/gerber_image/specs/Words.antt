@@ -3,7 +3,7 @@ use Rattle.std.specs.Prelude.{ℕ, ◌+◌, ◌-◌, ◌*◌, List, [], ◌∷�
 use Rattle.std.specs.Char.{is_ascii_digit}
 use Rattle.std.specs.Option.{option_or}
 use Rattle.std.specs.Str.{bytes_eq}
-use Rattle.board_base.specs.Binds.{◌>>?◌}
+use Rattle.board_base.specs.OptionBinds.{◌>>=◌}
 use Rattle.apertures.specs.declared.aperture.Unit.TheVariants as units
 use Rattle.gerber_image.specs.Texts.{after}
 use Rattle.gerber_image.specs.Numerals.{is_numeral, number_of, digits_of, signed_before}

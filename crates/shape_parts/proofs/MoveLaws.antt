@@ -4,7 +4,7 @@ use Rattle.std.specs.List.{list_any}
 use Rattle.std.proofs.Math.Seq.{drop-cons}
 use Rattle.std.proofs.lemmas.List.{take_all}
 use Rattle.std.proofs.lemmas.List.Folds.{list_any_at}
-use Rattle.board_base.specs.Binds.{◌>>?◌}
+use Rattle.board_base.specs.OptionBinds.{◌>>=◌}
 use Rattle.board_base.specs.declared.places.Point.{Point}
 use Rattle.shape_parts.specs.declared.shape.Part.{Part}
 use Rattle.shape_parts.specs.declared.shape.Piece.{Piece}
@@ -19,7 +19,7 @@ append_one : (xs ys : List Piece) (x : Piece) → xs ++ x ∷ ys ≡ (xs ++ x �
 append_one [] ys x = refl
 append_one (y ∷ xs) ys x = ap (λ (l : List Piece). y ∷ l) (append_one xs ys x)
 
-one_more : (xs : List Piece) (x : Piece) (o : Option (List Piece)) → before xs (o >>? (λ ys. Some (x ∷ ys))) ≡ before (xs ++ x ∷ []) o
+one_more : (xs : List Piece) (x : Piece) (o : Option (List Piece)) → before xs (o >>= (λ ys. Some (x ∷ ys))) ≡ before (xs ++ x ∷ []) o
 one_more xs x (Some ys) = ap Some (append_one xs ys x)
 one_more xs x None = refl
 
@@ -35,7 +35,7 @@ module _ (move : Point → Option Point) where
       ap (λ (ys : List Piece). before ys (moved_pieces move (drop (k + 1) pieces))) more
       ∙ ap (λ (i : ℕ). before (xs ++ x ∷ []) (moved_pieces move (drop i pieces))) next
       ∙ sym (one_more xs x rest)
-      ∙ ap (λ (o : Option Part). before xs (o >>? (λ part. rest >>? (λ others. Some (record { part = part; on = p.on } ∷ others))))) (sym there)
+      ∙ ap (λ (o : Option Part). before xs (o >>= (λ part. rest >>= (λ others. Some (record { part = part; on = p.on } ∷ others))))) (sym there)
       ∙ ap (λ (q : Piece). before xs (moved_pieces move (q ∷ drop (suc k) pieces))) is
       ∙ ap (λ (ps : List Piece). before xs (moved_pieces move ps)) (sym (drop-cons pieces k p l))
       ∙ h
@@ -45,7 +45,7 @@ module _ (move : Point → Option Point) where
   none_moved (p ∷ ps) = at (moved_part move p.part) (moved_pieces move ps) (none_moved ps)
     where
       at : (o : Option Part) (os : Option (List Piece)) → is_none os ≡ list_any (λ p. is_none (moved_part move p.part)) ps
-          → is_none (o >>? (λ part. os >>? (λ others. Some (record { part = part; on = p.on } ∷ others)))) ≡ (is_none o || list_any (λ p. is_none (moved_part move p.part)) ps)
+          → is_none (o >>= (λ part. os >>= (λ others. Some (record { part = part; on = p.on } ∷ others)))) ≡ (is_none o || list_any (λ p. is_none (moved_part move p.part)) ps)
       at None os e = refl
       at (Some x) None e = e
       at (Some x) (Some xs) e = e
