@@ -10,7 +10,7 @@ use Rattle.std.proofs.lemmas.Int.{ints}
 use Rattle.std.proofs.lemmas.List.{length-map}
 use Rattle.number_laws.proofs.Tests.{to_le, is_up_to}
 use Rattle.number_laws.proofs.Quotients.{rounded_low, rounded_high}
-use Rattle.board_base.specs.Steps.{◌>>=◌}
+use Rattle.board_base.specs.Binds.{◌>>=◌}
 use Rattle.job_file.specs.declared.error.JobKind.{JobKind}
 use Rattle.job_file.specs.declared.error.JobKind.TheVariants.{BadValue, OutOfRange, NotBuiltYet}
 use Rattle.job_file.specs.declared.keys.Kind.{Kind}

@@ -5,7 +5,7 @@ use Rattle.std.specs.List.{cons_option}
 use Rattle.std.specs.Option.{option_or}
 use Rattle.std.proofs.lemmas.List.{append-nil}
 use Rattle.std.proofs.lemmas.List.Elements.{filter_map-append}
-use Rattle.board_base.specs.Steps.{◌>>=◌}
+use Rattle.board_base.specs.Binds.{◌>>=◌}
 use Rattle.job_file.specs.declared.error.JobKind.{JobKind}
 use Rattle.job_file.specs.declared.error.JobError.{JobError}
 use Rattle.job_file.specs.declared.value.Value.{Value}

@@ -1,6 +1,6 @@
 -- What is kept of lines, one after another.
 use Rattle.std.specs.Prelude.{◌≡◌, ◌⊎◌, ℕ, List, [], ◌∷◌, ◌++◌, is_some, if◌then◌else◌, Option, Some, None, Result, Ok, Err, MatchResult}
-use Rattle.board_base.specs.Steps.{◌>>=◌}
+use Rattle.board_base.specs.Binds.{◌>>=◌}
 use Rattle.job_file.specs.declared.error.JobKind.{JobKind}
 use Rattle.job_file.specs.declared.error.JobKind.TheVariants.{UnknownKey, TwiceGiven, BadValue, Memory}
 use Rattle.job_file.specs.declared.error.JobError.{JobError}

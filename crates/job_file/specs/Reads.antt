@@ -2,7 +2,7 @@
 use Rattle.std.specs.Prelude.{◌≡◌, ℕ, ℤ, pos, List, length, map, Bool, true, false, not, ◌&&◌, ◌||◌, ◌==◌, if◌then◌else◌, nat_le, nat_lt, Result, Ok, Err}
 use Rattle.std.specs.List.{list_all}
 use Rattle.std.specs.Bool.{beq}
-use Rattle.board_base.specs.Steps.{◌>>=◌}
+use Rattle.board_base.specs.Binds.{◌>>=◌}
 use Rattle.job_file.specs.declared.error.JobKind.{JobKind}
 use Rattle.job_file.specs.declared.error.JobKind.TheVariants.{BadValue, OutOfRange, NotBuiltYet, Memory}
 use Rattle.job_file.specs.declared.keys.Kind.{Kind}

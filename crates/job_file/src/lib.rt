@@ -11,7 +11,6 @@ mod keys;
 mod number;
 mod reader;
 mod sheet;
-mod text;
 mod value;
 
 pub use error::{JobError, JobKind};

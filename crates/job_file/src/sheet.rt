@@ -2,8 +2,8 @@
 ghost use Rattle.std.specs.Prelude.{◌≡◌};
 ghost use Rattle.std.specs.Option.{option_copied};
 ghost use Rattle.job_file.specs.Keys.{IsKey, number_of as number_in};
-ghost use Rattle.job_file.specs.Lines.{said_round, said, file_lines, word_lines, dashed as dashed_of, as_line, is_equals};
-ghost use Rattle.std.specs.List.{position};
+ghost use Rattle.job_file.specs.Lines.{said_round, said, file_lines, word_lines, dashed, as_line};
+ghost use Rattle.text_cut.specs.Split.{halves};
 ghost use Rattle.job_file.specs.Reads.{value_read};
 ghost use Rattle.job_file.specs.Reading.{lines_give, Tells, texts};
 ghost use Rattle.job_file.specs.Behind.{valued as valued_of, keyed as keyed_of, said_behind, behind, behind_all, Leads};
@@ -11,10 +11,10 @@ ghost use Rattle.job_file.specs.Values.{given as given_in};
 
 use crate::error::{JobError, JobKind};
 use crate::keys::number_of;
-use crate::text::{dashed, equals_in, next_line, trimmed};
 use crate::value::{Given, read_value};
 use board_base::Items;
 use std::alloc::Global;
+use text_cut::{after, next_line, split_once, trimmed};
 
 // Where a word's place is numbered from.
 const WORDS: u32 = 100_000_000;
@@ -86,13 +86,10 @@ fn keyed(
 
 // Keeps what a line without spaces at its ends says, which isn't passed over.
 fn parted(alloc: Global, lines: &mut Items<Given>, place: u32, text: &[u8]) -> Result<(), JobError>
-    ensures { Leads (said_behind lines.old place (said_round text.now (position is_equals text.now))) lines.new result }
+    ensures { Leads (said_behind lines.old place (said_round (halves 61 text.now))) lines.new result }
 {
-    match equals_in(text) {
-        Some(i) => {
-            let name = trimmed(&text[..i]);
-            keyed(alloc, lines, place, name, trimmed(&text[i + 1..]))
-        }
+    match split_once(text, b'=') {
+        Some((name, value)) => keyed(alloc, lines, place, trimmed(name), trimmed(value)),
         None => Err(JobError {
             kind: JobKind::BadValue,
             key: 0,
@@ -144,9 +141,9 @@ fn read_word(
     place: u32,
     word: &str,
 ) -> Result<(), JobError>
-    ensures { Leads (behind_all lines.old (as_line place (dashed_of word.now))) lines.new result }
+    ensures { Leads (behind_all lines.old (as_line place (dashed word.now))) lines.new result }
 {
-    match dashed(word.as_bytes()) {
+    match after(word.as_bytes(), b"--") {
         Some(line) => read_line(alloc, lines, place, line),
         None => Ok(()),
     }

@@ -1,9 +1,8 @@
 // The values of keys, and reading them.
 ghost use Rattle.std.specs.Prelude.{◌≡◌, ◌<◌, ◌⊎◌, ◌++◌, ◌∷◌, [], length, MatchOption, MatchResult, IfSome, IsAscii, true, false, Ok};
-ghost use Rattle.std.specs.List.{position};
 ghost use Rattle.std.specs.Option.{option_map};
 ghost use Rattle.job_file.specs.Keys.{IsKey, kind_of as kind_in, micrometres};
-ghost use Rattle.job_file.specs.Numbers.{is_between as is_between_in, is_name, is_printable, is_plain_sign, is_comma, pieces, pieces_left};
+ghost use Rattle.job_file.specs.Numbers.{is_between as is_between_in, is_name, is_printable, is_plain_sign, pieces, pieces_left};
 ghost use Rattle.job_file.specs.Reads.{Answers, AnswersBy, read_of, truth_value as truth_value_of, only_value as only_value_of, length_value as length_value_of, even_length_value as even_length_value_of, sizes_value as sizes_value_of, lengths_value as lengths_value_of, feed_value as feed_value_of, count_value as count_value_of, ranged as ranged_of, even_ranged as even_ranged_of, counted as counted_of, paced as paced_of, named as named_of, few_lengths as few_lengths_of, all_ranged as all_ranged_of, asks_more as asks_more_in, is_ahead as is_ahead_in, value_read};
 
 use crate::error::JobKind;
@@ -11,6 +10,7 @@ use crate::keys::{Kind, kind_of};
 use crate::number::{feed, is_base_name, is_file_name, length, truth, whole, without_percent};
 use board_base::{Items, Name};
 use std::alloc::Global;
+use text_cut::split_once;
 
 /// A value of a key. Lengths are in nanometres, feeds in thousandths of a millimetre a minute.
 #[derive(Drop)]
@@ -133,17 +133,10 @@ fn cut_piece(text: &[u8]) -> (&[u8], Option<&[u8]>)
     ensures value { pieces text.now ≡ result.0.now ∷ pieces_left (option_map (λ rest. rest.now) result.1) }
     ensures less { IfSome result.1 (λ rest. length rest.now < length text.now) }
 {
-    match comma_in(text) {
-        Some(i) => (&text[..i], Some(&text[i + 1..])),
+    match split_once(text, b',') {
+        Some((piece, rest)) => (piece, Some(rest)),
         None => (text, None),
     }
-}
-
-// The place of the first comma.
-fn comma_in(text: &[u8]) -> Option<usize>
-    ensures { result ≡ position is_comma text.now }
-{
-    text.iter().position(|b| *b == b',')
 }
 
 // The micrometres of lengths between commas, of which there are no more than so many.
