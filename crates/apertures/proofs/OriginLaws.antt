@@ -7,7 +7,8 @@ use Rattle.std.proofs.lemmas.Grind.{common_steps}
 use Rattle.board_base.specs.OptionBinds.{◌>>=◌}
 use Rattle.board_base.specs.Places.{IsCoordinate, IsPlace}
 use Rattle.board_base.specs.declared.places.Point.{Point}
-use Rattle.fixed_num.specs.Angles.{in_turn, in_range, point_at}
+use Rattle.fixed_num.specs.Angles.{in_turn}
+use Rattle.plane_arcs.specs.Turned.{in_range, point_at}
 use Rattle.shape_parts.specs.declared.shape.Part.{Part}
 use Rattle.shape_parts.specs.declared.shape.Part.TheVariants.{Disc, Capsule, Area}
 use Rattle.shape_parts.specs.declared.shape.Piece.{Piece}

@@ -2,7 +2,8 @@
 use Rattle.std.specs.Prelude.{ℤ, neg_ℤ, ◌+ℤ◌, List, if◌then◌else◌, ◌==◌, Option, Some}
 use Rattle.board_base.specs.OptionBinds.{◌>>=◌}
 use Rattle.board_base.specs.declared.places.Point.{Point}
-use Rattle.fixed_num.specs.Angles.{in_turn, rotated, point_at}
+use Rattle.fixed_num.specs.Angles.{in_turn}
+use Rattle.plane_arcs.specs.Turned.{rotated, point_at}
 use Rattle.shape_parts.specs.declared.shape.Piece.{Piece}
 use Rattle.shape_parts.specs.Moved.{moved_pieces}
 use Rattle.apertures.specs.declared.place.Mirror.{Mirror}

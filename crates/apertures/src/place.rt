@@ -6,7 +6,7 @@ ghost use Rattle.apertures.specs.Placed.{mirrored as mirrored_of, turned as turn
 
 use crate::aperture::{Aperture, ApertureError};
 use board_base::Point;
-use fixed_num::{point_at, rotate};
+use plane_arcs::{point_at, rotate};
 use poly_area::Motion;
 use shape_parts::Shape;
 use std::alloc::Global;

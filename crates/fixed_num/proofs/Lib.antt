@@ -5,7 +5,4 @@ pub mod ValueLaws
 pub mod RoundingLaws
 pub mod TurnLaws
 pub mod SizeLaws
-pub mod VectorLaws
-pub mod ArcLaws
-pub mod QuarterLaws
-pub mod ChainLaws
+pub mod RootLaws

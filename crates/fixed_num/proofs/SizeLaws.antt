@@ -13,12 +13,8 @@ use Rattle.fixed_num.specs.Spelled.{parts_of, is_decimal, decimal_of}
 use Rattle.fixed_num.specs.Values.{a_number, not_long, short_of, cut_at}
 use Rattle.fixed_num.specs.Sizes.{SizeLaw}
 use Rattle.fixed_num.specs.declared.number.NumError.TheVariants.{TooLong}
-use Rattle.fixed_num.proofs.DigitLaws.{all_taken, thirty}
+use Rattle.fixed_num.proofs.DigitLaws.{all_append, all_taken, thirty}
 use Rattle.fixed_num.proofs.SpelledLaws.{from_test}
-
-all_append : (xs ys : List ℕ) → AllDigits 10 xs → AllDigits 10 ys → AllDigits 10 (xs ++ ys)
-all_append [] ys h k = k
-all_append (x ∷ xs) ys h k = (h.0, all_append xs ys h.1 k)
 
 sign_size : (s : Sign) (n : ℕ) → unsigned_abs (signed s n) ≡ n
 sign_size none n = refl

@@ -9,14 +9,9 @@ use Rattle.std.proofs.lemmas.List.{append-nil, take-append-drop}
 use Rattle.std.proofs.Math.Seq.{drop-cons, take-append_seam}
 use Rattle.std.proofs.lemmas.List.Quantifiers.{position-Some}
 use Rattle.std.proofs.lemmas.Str.Parse.{digit_from_value, IsDigitsTest, IsNumeralModel, numerals_by_value}
+use Rattle.fixed_num.proofs.DigitLaws.{digit_test}
 use Rattle.fixed_num.specs.Decimal.{Sign, none, plus, minus, sign_text, Decimal, point_text, fraction_of, decimal_text, IsDecimal}
 use Rattle.fixed_num.specs.Spelled.{sign_of, behind_sign, is_point, round_point, parts_of, is_decimal, decimal_of, DecimalLaw}
-
-tells_digits : IsDigitsTest (λ ds. list_all is_ascii_digit ds ≡ true)
-tells_digits = search rules
-
-digit_test : IsNumeralModel (λ ds. list_all is_ascii_digit ds ≡ true) (digits_value 10)
-digit_test = numerals_by_value _ tells_digits
 
 -- a test of three parts
 three : (a b c : Bool) → (a && b && c) ≡ true → (a ≡ true) × (b ≡ true) × (c ≡ true)

@@ -1,8 +1,6 @@
--- Sine, cosine and turns. An angle is in millionths of a degree, counterclockwise, and a sine in 10^-12.
-use Rattle.std.specs.Prelude.{ℕ, zero, suc, ◌-◌, ◌*◌, ◌/◌, ◌%◌, ℤ, pos, neg_ℤ, ◌+ℤ◌, ◌-ℤ◌, ◌*ℤ◌, unsigned_abs, nat_le, Bool, if◌then◌else◌, ◌&&◌, ◌==◌, Option, Some, None}
+-- Sine and cosine. An angle is in millionths of a degree, counterclockwise, and a sine in 10^-12.
+use Rattle.std.specs.Prelude.{ℕ, zero, suc, ◌-◌, ◌*◌, ◌/◌, ◌%◌, ℤ, pos, neg_ℤ, ◌+ℤ◌, ◌-ℤ◌, unsigned_abs, nat_le, if◌then◌else◌, ◌==◌}
 use Rattle.std.specs.Int.{int_rem_euclid}
-use Rattle.board_base.specs.declared.places.Point.{Point}
-use Rattle.fixed_num.specs.Rounding.{round_div_of}
 
 -- the product of two numbers in 10^-12, cut
 unfoldable pub scaled : ℕ → ℕ → ℕ
@@ -63,22 +61,3 @@ sine_of angle = sine_in (in_turn angle / 90000000) (in_turn angle % 90000000)
 -- the cosine of an angle
 unfoldable pub cosine_of : ℤ → ℤ
 cosine_of angle = cosine_in (in_turn angle / 90000000) (in_turn angle % 90000000)
-
--- the coordinates of a point turned about the origin, in whole nanometres
-unfoldable pub turned_x : Point → ℤ → ℤ
-turned_x p angle = round_div_of (p.x *ℤ cosine_of angle -ℤ p.y *ℤ sine_of angle) (pos 1000000000000)
-
-unfoldable pub turned_y : Point → ℤ → ℤ
-turned_y p angle = round_div_of (p.x *ℤ sine_of angle +ℤ p.y *ℤ cosine_of angle) (pos 1000000000000)
-
--- whether a coordinate is at most 500 mm in size
-unfoldable pub in_range : ℤ → Bool
-in_range v = nat_le (unsigned_abs v) 500000000
-
--- the point with these coordinates, where both are in the range
-abbrev pub point_at : ℤ → ℤ → Option Point
-point_at x y = if in_range x && in_range y then Some (record { x = x; y = y }) else None
-
--- the point turned about the origin, where it is in the range
-abbrev pub rotated : Point → ℤ → Option Point
-rotated p angle = point_at (turned_x p angle) (turned_y p angle)

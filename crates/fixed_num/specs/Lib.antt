@@ -7,6 +7,3 @@ pub mod Rounding
 pub mod Angles
 pub mod Turns
 pub mod Sizes
-pub mod Vectors
-pub mod Arcs
-pub mod Chains

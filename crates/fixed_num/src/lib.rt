@@ -1,24 +1,20 @@
 //! Numbers as files write them: decimals of any scale, and millionths with six decimals; and the roots, rounded
-//! quotients, sines, turns of points and chains of arcs that stand for real ones. Whole numbers alone, with no
-//! floating point. Readers and writers of every format stand on it, so a format's own rules don't belong here.
+//! quotients and sines that stand for real ones. Whole numbers alone, with no floating point. Readers and writers
+//! of every format stand on it, so a format's own rules don't belong here.
 #![tactic(auto)]
 
-ghost use Rattle.fixed_num.specs.Chains.{ChainLaw};
 ghost use Rattle.fixed_num.specs.Sizes.{SizeLaw};
 ghost use Rattle.fixed_num.specs.Spelled.{DecimalLaw};
 ghost use Rattle.fixed_num.specs.Turns.{TurnLaw};
 ghost use Rattle.fixed_num.specs.Values.{UsedLaw};
 
 mod angles;
-mod arcs;
 mod decimal;
 mod fixed;
 mod number;
 mod rounding;
-mod vectors;
 
-pub use angles::{cosine, point_at, rotate, sine};
-pub use arcs::{Arc, ArcError, arc_chain};
+pub use angles::{cosine, sine};
 pub use decimal::{DecimalText, SignMark, split_decimal};
 pub use fixed::write_fixed6;
 pub use number::{NumError, cut_decimal, read_decimal};
@@ -42,11 +38,6 @@ pub fn size_law()
 /// Sine and cosine are exact at multiples of 90 degrees, and a quarter more turns them round.
 pub fn turn_law()
     ensures { TurnLaw }
-{}
-
-/// A chain begins with the start of its arc and ends with its end, and the last quarter holds that end.
-pub fn chain_law()
-    ensures { ChainLaw }
 {}
 
 #[cfg(test)]

@@ -5,7 +5,7 @@ use Rattle.std.proofs.lemmas.Int.{ints}
 use Rattle.board_base.specs.declared.places.Point.{Point}
 use Rattle.board_base.specs.Places.{IsPlace, IsCoordinate}
 use Rattle.fixed_num.specs.Rounding.{rounded, round_div_of}
-use Rattle.fixed_num.specs.Angles.{in_range, point_at}
+use Rattle.plane_arcs.specs.Turned.{in_range, point_at}
 use Rattle.apertures.specs.declared.aperture.Unit.{Unit}
 use Rattle.apertures.specs.declared.aperture.Unit.TheVariants.{Mm, Inch}
 use Rattle.apertures.specs.Texts.{length_of, IsSize}

@@ -7,7 +7,7 @@ use Rattle.std.proofs.lemmas.Int.{ints}
 use Rattle.number_laws.proofs.Tests.{by_bool}
 use Rattle.board_base.specs.Places.{IsCoordinate, IsPlace}
 use Rattle.board_base.specs.declared.places.Point.{Point}
-use Rattle.fixed_num.specs.Angles.{in_range}
+use Rattle.plane_arcs.specs.Turned.{in_range}
 use Rattle.poly_area.specs.Moved.{all_moved, moved_points, moved_loops}
 use Rattle.shape_parts.specs.declared.shape.Part.{Part}
 use Rattle.shape_parts.specs.declared.shape.Part.TheVariants.{Disc, Capsule, Area}

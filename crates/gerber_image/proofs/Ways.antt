@@ -2,7 +2,7 @@
 use Rattle.std.proofs.Common.{◌≡◌, Bool, true, false, Some, None}
 use Rattle.std.specs.Prelude.{if◌then◌else◌, ◌&&◌, ◌||◌}
 use Rattle.gerber_image.specs.InForce.{InForce}
-use Rattle.fixed_num.specs.Arcs.{chain_of}
+use Rattle.plane_arcs.specs.Arcs.{chain_of}
 use Rattle.gerber_image.specs.Routes.{place_after, mode_after, is_curved, arc_of, arc_centre}
 use Rattle.gerber_image.specs.Checks.{is_open, is_past, is_far}
 use Rattle.gerber_image.specs.State.{way_fault, Stops}

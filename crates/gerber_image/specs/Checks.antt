@@ -3,10 +3,10 @@ use Rattle.std.specs.Prelude.{◌+◌, ◌||◌, pos, Bool, true, false, List, [
 use Rattle.std.specs.Option.{option_or}
 use Rattle.std.specs.List.{list_any}
 use Rattle.board_base.specs.declared.places.Point.{Point}
-use Rattle.fixed_num.specs.Angles.{in_range}
+use Rattle.plane_arcs.specs.Turned.{in_range}
 use Rattle.shape_parts.specs.declared.shape.Part.{Part}
-use Rattle.fixed_num.specs.declared.arcs.ArcError.{ArcError}
-use Rattle.fixed_num.specs.declared.arcs.ArcError.TheVariants as arc_errors
+use Rattle.plane_arcs.specs.declared.arcs.ArcError.{ArcError}
+use Rattle.plane_arcs.specs.declared.arcs.ArcError.TheVariants as arc_errors
 use Rattle.shape_parts.specs.declared.shape.Part.TheVariants.{Disc, Capsule, Area}
 use Rattle.shape_parts.specs.declared.shape.Piece.{Piece}
 use Rattle.shape_parts.specs.declared.shape.Painted.{Painted}

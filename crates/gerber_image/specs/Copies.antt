@@ -2,7 +2,7 @@
 use Rattle.std.specs.Prelude.{◌≡◌, ℕ, ◌<◌, pos, ◌+ℤ◌, false, List, Option}
 use Rattle.std.specs.List.{list_any}
 use Rattle.board_base.specs.declared.places.Point.{Point}
-use Rattle.fixed_num.specs.Angles.{point_at}
+use Rattle.plane_arcs.specs.Turned.{point_at}
 use Rattle.shape_parts.specs.declared.shape.Painted.{Painted}
 use Rattle.gerber_image.specs.Image.{copy}
 use Rattle.gerber_image.specs.Checks.{is_outside}

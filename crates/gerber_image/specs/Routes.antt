@@ -1,9 +1,9 @@
 -- The ways of draws.
 use Rattle.std.specs.Prelude.{ℤ, pos, ◌+ℤ◌, Bool, true, false, List, [], ◌∷◌, drop, Option, unwrap_or, if◌then◌else◌, Result, Ok, Err}
 use Rattle.board_base.specs.declared.places.Point.{Point}
-use Rattle.fixed_num.specs.Arcs.{chain_of}
-use Rattle.fixed_num.specs.declared.arcs.Arc.{Arc}
-use Rattle.fixed_num.specs.declared.arcs.ArcError.{ArcError}
+use Rattle.plane_arcs.specs.Arcs.{chain_of}
+use Rattle.plane_arcs.specs.declared.arcs.Arc.{Arc}
+use Rattle.plane_arcs.specs.declared.arcs.ArcError.{ArcError}
 use Rattle.shape_parts.specs.declared.shape.Part.TheVariants.{Capsule}
 use Rattle.shape_parts.specs.declared.shape.Piece.{Piece}
 use Rattle.apertures.specs.Defined.{at, solid}

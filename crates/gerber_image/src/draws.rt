@@ -2,8 +2,8 @@
 ghost use Rattle.std.specs.Prelude.{◌≡◌, ◌∷◌, [], ◌≤◌, ◌+ℤ◌, ◌||◌, ◌&&◌, unsigned_abs, MatchOption, MatchResult, IfOk, false, true, Some, None, Ok, unwrap_or, if◌then◌else◌};
 ghost use Rattle.std.specs.List.{All};
 ghost use Rattle.board_base.specs.Places.{IsPlace, IsCoordinate};
-ghost use Rattle.fixed_num.specs.Arcs.{chain_of};
-ghost use Rattle.fixed_num.specs.Vectors.{IsArcPlace};
+ghost use Rattle.plane_arcs.specs.Arcs.{chain_of};
+ghost use Rattle.plane_arcs.specs.Vectors.{IsArcPlace};
 ghost use Rattle.gerber_image.specs.Fits.{AreWritten};
 ghost use Rattle.gerber_image.specs.Routes.{x_after, y_after, place_after, mode_after, is_curved as is_curved_of, turns_left as turns_left_of, arc_centre, arc_of, route};
 ghost use Rattle.gerber_image.specs.Checks.{has_long, is_draw, is_far, is_open, is_past, draw_leaves};
@@ -13,7 +13,7 @@ use crate::command::{Act, GerberKind, Mode, Operation};
 use crate::numbers::{coordinate, is_far, point, short_coordinate};
 use crate::state::{State, Stop};
 use board_base::Point;
-use fixed_num::{Arc, ArcError, arc_chain};
+use plane_arcs::{Arc, ArcError, arc_chain};
 use std::alloc::{AllocError, Global};
 
 /// Where an operation leads, and along which points, where it draws.

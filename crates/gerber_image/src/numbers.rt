@@ -11,7 +11,8 @@ ghost use Rattle.gerber_image.specs.InForce.{said_place, step_length as step_len
 use crate::command::{Digits, Format};
 use apertures::{Unit, length_of};
 use board_base::Point;
-use fixed_num::{point_at, round_div};
+use fixed_num::round_div;
+use plane_arcs::point_at;
 
 // The nanometres of a unit.
 fn unit_size(unit: Unit) -> i128
@@ -123,7 +124,7 @@ pub fn point(x: i128, y: i128) -> Option<Point>
 }
 
 /// Whether a point is past the range.
-#[tactic(auto, unfolding(fixed_num::specs::Angles::in_range))]
+#[tactic(auto, unfolding(plane_arcs::specs::Turned::in_range))]
 pub fn is_far(p: Point) -> bool
     ensures { result ≡ is_far_of p }
 {

@@ -11,7 +11,7 @@ use crate::command::{GerberKind, Repeat};
 use crate::numbers::either;
 use crate::objects::Objects;
 use board_base::Point;
-use fixed_num::point_at;
+use plane_arcs::point_at;
 use poly_area::Motion;
 use shape_parts::{Painted, Shape};
 use std::alloc::{AllocError, Global};

@@ -1,4 +1,0 @@
-use Rattle.fixed_num.proofs.arcs.+bisect.Given as goal
-
-abbrev pub decreases-bisect : goal.decreases-bisect
-decreases-bisect l = l.times

@@ -1,0 +1,4 @@
+pub mod Turned
+pub mod Vectors
+pub mod Arcs
+pub mod Chains
