@@ -1,0 +1,9 @@
+pub mod Entries
+pub mod Walking
+pub mod WalkGrids
+pub mod Chaining
+pub mod Unique
+pub mod CornerLaws
+pub mod Traces
+pub mod CornerRuns
+pub mod CornerTurns
