@@ -116,33 +116,35 @@ fn holds(part: &Part, q: Point) -> bool
     }
 }
 
-// Whether the part touches the cell round `c`.
-fn touches(part: &Part, c: Point, h: i64) -> bool
-    requires part { IsPart part.now }
-    requires c { IsNearPlace c }
-    requires h_low { pos 0 <ℤ h }
-    requires h_high { h ≤ℤ pos 200000 }
-    ensures { result ≡ part_touches c h part.now }
-{
-    match part {
-        Part::Disc { c: a, d } => segment_touches(c, h, *a, *a, *d),
-        Part::Capsule { a, b, d } => segment_touches(c, h, *a, *b, *d),
-        Part::Area { poly } => poly.edge_near(c, double(h)) || poly.contains(c),
+impl Part {
+    /// Whether the part, grown by `h`, reaches the centre `c` of a cell whose half diagonal is `h`, in nanometres.
+    pub fn touches(&self, c: Point, h: i64) -> bool
+        requires part { IsPart self.now }
+        requires c { IsNearPlace c }
+        requires h_low { pos 0 <ℤ h }
+        requires h_high { h ≤ℤ pos 200000 }
+        ensures { result ≡ part_touches c h self.now }
+    {
+        match self {
+            Part::Disc { c: a, d } => segment_touches(c, h, *a, *a, *d),
+            Part::Capsule { a, b, d } => segment_touches(c, h, *a, *b, *d),
+            Part::Area { poly } => poly.edge_near(c, double(h)) || poly.contains(c),
+        }
     }
-}
 
-// Whether the part covers the cell round `c`.
-fn covers(part: &Part, c: Point, h: i64) -> bool
-    requires part { IsPart part.now }
-    requires c { IsNearPlace c }
-    requires h_low { pos 0 <ℤ h }
-    requires h_high { h ≤ℤ pos 200000 }
-    ensures { result ≡ part_covers c h part.now }
-{
-    match part {
-        Part::Disc { c: a, d } => segment_covers(c, h, *a, *a, *d),
-        Part::Capsule { a, b, d } => segment_covers(c, h, *a, *b, *d),
-        Part::Area { poly } => !poly.edge_near(c, double(h)) && poly.contains(c),
+    /// Whether the part, shrunk by `h`, still reaches the centre `c` of a cell whose half diagonal is `h`.
+    pub fn covers(&self, c: Point, h: i64) -> bool
+        requires part { IsPart self.now }
+        requires c { IsNearPlace c }
+        requires h_low { pos 0 <ℤ h }
+        requires h_high { h ≤ℤ pos 200000 }
+        ensures { result ≡ part_covers c h self.now }
+    {
+        match self {
+            Part::Disc { c: a, d } => segment_covers(c, h, *a, *a, *d),
+            Part::Capsule { a, b, d } => segment_covers(c, h, *a, *b, *d),
+            Part::Area { poly } => !poly.edge_near(c, double(h)) && poly.contains(c),
+        }
     }
 }
 
@@ -173,10 +175,10 @@ fn touched_after(held: bool, piece: &Piece, c: Point, h: i64) -> bool
         if held {
             true
         } else {
-            touches(&piece.part, c, h)
+            piece.part.touches(c, h)
         }
     } else if held {
-        !covers(&piece.part, c, h)
+        !piece.part.covers(c, h)
     } else {
         false
     }
@@ -194,10 +196,10 @@ fn covered_after(held: bool, piece: &Piece, c: Point, h: i64) -> bool
         if held {
             true
         } else {
-            covers(&piece.part, c, h)
+            piece.part.covers(c, h)
         }
     } else if held {
-        !touches(&piece.part, c, h)
+        !piece.part.touches(c, h)
     } else {
         false
     }

@@ -67,6 +67,14 @@ impl Shape {
         }
     }
 
+    /// The shape of these parts in their order. Takes no memory.
+    pub fn of(pieces: Vec<Piece>) -> Shape
+        requires { All IsPiece pieces.items }
+        ensures { result ≡ pieces.items }
+    {
+        Shape { pieces }
+    }
+
     /// Adds a part after the others. Without memory it fails, and the shape stays as it was.
     pub fn push(&mut self, part: Part, on: bool) -> Result<(), AllocError>
         requires { IsPart part }
