@@ -54,7 +54,9 @@ parts job painted number groups moves swept m u v u_in v_in apart (a, b, (a_is, 
 run_parts : (job : Job) (painted : List Painted) (number : Cell → ℕ) (groups : List (List ℕ)) (program : Program) → PartsSwept job painted number groups → RunsTo (lines_of program) (Mills job painted)
     → RunsTo (lines_of program) (PartsOthers job number groups)
 unfolding RunsTo
-run_parts job painted number groups program swept (moves, run, m) = (moves, run, parts job painted number groups moves swept m)
+run_parts job painted number groups program swept runs answers =
+    let found = runs answers in
+    (found.0, found.1, parts job painted number groups found.0 swept found.2)
 
 pub isolation_is : (job : Job) (painted : List Painted) (raster : Raster) (plan : Isolation) → IsJob job → IsHalfDiagonal job.pitch (half_diagonal_of job.pitch) → CoverLaw → ScaledSweep → RunLaw → IsRasterOf job painted raster
     → plan.frame ≡ raster.frame → plan.kept ≡ raster.kept → plan.islands ≡ raster.islands → plan.groups ≡ raster.groups → length raster.centres.items ≡ plan.centres → plan.program ≡ program_at job raster.centres.items

@@ -162,6 +162,6 @@ pub runs : (job : Job) (painted : List Painted) (cells : List Cell) → IsJob jo
     → IsProgram (program_at job cells) → IsRunnable (program_at job cells) → ((c : Cell) → Contains cells c ↔ IsContour (keeps job painted) (guard job) c)
     → RunsTo (lines_of (program_at job cells)) (Mills job painted)
 unfolding RunsTo
-runs job painted cells ok diagonal law sweep run valid runnable lists =
-    let found = run (program_at job cells) valid runnable in
+runs job painted cells ok diagonal law sweep run valid runnable lists answers =
+    let found = run answers (program_at job cells) valid runnable in
     (found.0, found.1, mills job painted cells found.0 ok diagonal law sweep lists found.2)

@@ -164,7 +164,9 @@ runs_as_text bytes lines P e stands runs = (lines, subst (λ b. StandsFor b line
 
 runs_weaker : (lines : List Line) (P Q : List Move → Type 0) → ((moves : List Move) → P moves → Q moves) → RunsTo lines P → RunsTo lines Q
 unfolding RunsTo
-runs_weaker lines P Q weaker (moves, run, holds) = (moves, run, weaker moves holds)
+runs_weaker lines P Q weaker runs answers =
+    let found = runs answers in
+    (found.0, found.1, weaker found.0 found.2)
 
 plan_runs : (m : Milled) (P : List Move → Type 0) (p : IsPlanned m) → RunsTo (lines_of p.plan.program) P → Runs m.program P
 plan_runs m P p runs = runs_as_text m.program (lines_of p.plan.program) P p.program p.stands runs

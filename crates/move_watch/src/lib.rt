@@ -10,6 +10,7 @@ mod kinds;
 mod laws;
 mod patrol;
 mod posts;
+mod viewer;
 mod watcher;
 
 pub use bounds::{Limits, breaks};
@@ -17,4 +18,5 @@ pub use finding::{Finding, Findings};
 pub use kinds::{DepthFloor, FeedCap, ToolList, TravelBox};
 pub use laws::findings_law;
 pub use patrol::Patrol;
+pub use viewer::Viewer;
 pub use watcher::Watcher;

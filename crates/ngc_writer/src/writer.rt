@@ -1,7 +1,8 @@
 // The bytes of a program.
 ghost use Rattle.std.specs.Prelude.{◌≡◌, ◌++◌, decimal, pos, OnOk, IfOk};
 ghost use Rattle.std.specs.List.{All};
-ghost use Rattle.rs274_sim.specs.declared.line.Value.TheVariants.{Num};
+ghost use Rattle.rs274_sim.specs.declared.line.Value.{Num};
+ghost use Rattle.rs274_sim.specs.Machine.{number as number_in};
 ghost use Rattle.rs274_sim.specs.Spelling.{has_decimals, word_text, line_text, IsWrittenLine, text_of};
 ghost use Rattle.rs274_sim.specs.Text.{StandsFor};
 
@@ -26,11 +27,21 @@ fn write_whole(out: &mut Vec<u8>, n: u64) -> Result<(), AllocError>
     Ok(())
 }
 
-// Appends a letter and its number.
-fn write_word(alloc: Global, out: &mut Vec<u8>, word: Word) -> Result<(), AllocError>
-    ensures { OnOk result (out.new.items ≡ out.old.items ++ word_text word) }
+// The number of a value that is a plain decimal.
+fn number(value: &Value) -> i64
+    ensures { result ≡ number_in value.now }
 {
-    let Value::Num(number) = word.value;
+    match value {
+        Value::Num(number) => *number,
+        Value::Param(_) | Value::Expr(_) => 0, // no written word has these
+    }
+}
+
+// Appends a letter and its number.
+fn write_word(alloc: Global, out: &mut Vec<u8>, word: &Word) -> Result<(), AllocError>
+    ensures { OnOk result (out.new.items ≡ out.old.items ++ word_text word.now) }
+{
+    let number = number(&word.value);
     out.push(word.letter)?;
     if has_decimals(word.letter) {
         write_fixed6(alloc, out, number / 1_000_000)?;
@@ -48,7 +59,7 @@ fn write_line(alloc: Global, out: &mut Vec<u8>, line: &Line) -> Result<(), Alloc
         if k > 0 {
             out.push(b' ')?;
         }
-        write_word(alloc, out, *line.words.at(k))?;
+        write_word(alloc, out, line.words.at(k))?;
     }
     Ok(())
 }
@@ -68,6 +79,3 @@ pub fn write_program(alloc: Global, lines: &Vec<Line>) -> Result<Vec<u8>, AllocE
     }
     Ok(bytes)
 }
-
-#[cfg(test)]
-mod tests;

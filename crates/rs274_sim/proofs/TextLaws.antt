@@ -1,5 +1,5 @@
 -- What is written stands for the lines that it was written from.
-use Rattle.std.proofs.Common.{◌≡◌, ◌≢◌, refl, ℕ, suc, ◌+◌, ◌-◌, ◌*◌, ◌/◌, ◌%◌, ◌^◌, ◌<◌, ◌≤◌, ℤ, pos, negsuc, neg_ℤ, ◌*ℤ◌, List, [], ◌∷◌, ◌++◌, Bool, true, false, not, cond, Some, None, length, map, ap, sym, ◌∙◌, subst, arith, inl, append_assoc, eqb, decimal, MatchBool}
+use Rattle.std.proofs.Common.{◌≡◌, ◌≢◌, refl, ℕ, suc, ◌+◌, ◌-◌, ◌*◌, ◌/◌, ◌%◌, ◌^◌, ◌<◌, ◌≤◌, ℤ, pos, negsuc, neg_ℤ, ◌*ℤ◌, List, [], ◌∷◌, ◌++◌, Bool, true, false, not, cond, Some, None, length, map, ap, sym, ◌∙◌, subst, arith, inl, inr, append_assoc, eqb, decimal, MatchBool}
 use Rattle.std.specs.Prelude.{unsigned_abs, int_div, int_rem, ◌+ℤ◌}
 use Rattle.std.specs.List.{flat_map, join_with_byte, AllByRecursion, All, AllZip, slice_split}
 use Rattle.std.specs.Char.{digit_value}
@@ -17,10 +17,10 @@ use Rattle.std.specs.Str.Lines.{lines, lines_of_parts, strip_carriage_return}
 use Rattle.std.proofs.Common.{get_or, take, zero, ◌==◌}
 use Rattle.rs274_sim.specs.declared.line.Word.{Word}
 use Rattle.rs274_sim.specs.declared.line.Line.{Line}
-use Rattle.rs274_sim.specs.declared.line.Value.TheVariants.{Num}
+use Rattle.rs274_sim.specs.declared.line.Value.{Value, Num}
 use Rattle.fixed_num.specs.Decimal.{Sign, none, minus, signed, Decimal, IsDecimal, decimal_text, value_at}
 use Rattle.fixed_num.specs.Fixed.{digit, six_digits, sign, fixed6}
-use Rattle.rs274_sim.specs.Text.{IsNumber, SpellsWord, SpellsWords, StandsForLine, StandsFor, unblanked, is_blank}
+use Rattle.rs274_sim.specs.Text.{IsNumber, SpellsNumber, SpellsValue, SpellsWord, word, words_of, settings_of, SpellsPieces, SpellsPlainLine, StandsForLine, StandsFor, unblanked, is_blank}
 use Rattle.rs274_sim.specs.Machine.{number, whole_part, one}
 use Rattle.rs274_sim.specs.Spelling.{word_text, line_text, text_of, has_decimals, IsWritten, IsWrittenLine, millionths}
 
@@ -116,10 +116,15 @@ whole_number n h = ap (λ v. pos (v * 1000000000000)) (ap (digits_value 10) (app
 
 -- ---- words
 
+-- a number is a value
+pub number_is_value : (depth : ℕ) (bytes : List ℕ) (v : Value) → SpellsNumber bytes v → SpellsValue depth bytes v
+number_is_value zero bytes v h = inl h
+number_is_value (suc depth) bytes v h = inl (inl h)
+
 -- a word's text spells it
 spells_fixed : (w : Word) (m : ℤ) → (65 ≤ w.letter) × (w.letter ≤ 90) × (w.letter ≢ 78) → w.value ≡ Num (m *ℤ pos 1000000) → unsigned_abs m ≤ 1000000000000 → SpellsWord (w.letter ∷ fixed6 m) w
 spells_fixed w m upper value small =
-    ((upper.0, upper.1, upper.2, inl refl), fixed_decimal m, fixed_is_number m small, fixed_text m, value ∙ ap Num (sym (fixed_number m (omega (arith, small)))))
+    ((upper.0, upper.1, upper.2, inl refl), number_is_value 16 (fixed6 m) w.value (fixed_decimal m, fixed_is_number m small, fixed_text m, value ∙ ap Num (sym (fixed_number m (omega (arith, small))))))
 
 whole_is_decimal : (n : ℕ) → n ≤ 1000000 → IsDecimal (whole_decimal n)
 whole_is_decimal n h = record {
@@ -137,8 +142,10 @@ whole_is_number n h = record {
 }
 
 spells_whole : (w : Word) (n : ℕ) → (65 ≤ w.letter) × (w.letter ≤ 90) × (w.letter ≢ 78) → w.value ≡ Num (pos (n * 1000000000000)) → n ≤ 1000000 → SpellsWord (w.letter ∷ decimal n) w
-spells_whole w n upper value small =
-    ((upper.0, upper.1, upper.2, inl refl), whole_decimal n, whole_is_number n small, sym (append-nil (decimal n)), value ∙ ap Num (sym (whole_number n (omega arith))))
+spells_whole w n upper value small = (
+  (upper.0, upper.1, upper.2, inl refl),
+  number_is_value 16 (decimal n) w.value (whole_decimal n, whole_is_number n small, sym (append-nil (decimal n)), value ∙ ap Num (sym (whole_number n (omega arith)))),
+)
 
 same_quotient : (m q r : ℤ) → (q *ℤ pos 1000000) +ℤ r ≡ m *ℤ pos 1000000 → unsigned_abs r < 1000000 → q ≡ m
 same_quotient m q (pos r) e h = omega (arith, ints)
@@ -217,17 +224,36 @@ unblanked_words (w ∷ v ∷ ws) h =
     unblanked_plain (word_text w) (32 ∷ join_with_byte 32 (map word_text (v ∷ ws))) (plain_word w h.0)
     ∙ ap (λ t. word_text w ++ t) (unblanked_words (v ∷ ws) h.1)
 
-spells_words : (ws : List Word) → AllByRecursion IsWritten ws → SpellsWords (flat_map word_text ws) ws
-spells_words [] h = refl
+spells_words : (ws : List Word) → AllByRecursion IsWritten ws → SpellsPieces (flat_map word_text ws) (map word ws)
+spells_words [] h = tt
 spells_words (w ∷ ws) h = (word_text w, flat_map word_text ws, refl, spells w h.0, spells_words ws h.1)
+
+same_words : (ws : List Word) → ws ≡ words_of (map word ws)
+same_words [] = refl
+same_words (w ∷ ws) = ap (λ t. w ∷ t) (same_words ws)
+
+no_settings : (ws : List Word) → [] ≡ settings_of (map word ws)
+no_settings [] = refl
+no_settings (w ∷ ws) = no_settings ws
 
 all_words : (line : Line) → IsWrittenLine line → AllByRecursion IsWritten line.words
 all_words line h = recursion_from_All IsWritten line.words h.words
 
+spells_line : (line : Line) → IsWrittenLine line → SpellsPlainLine (flat_map word_text line.words) line
+spells_line line h = record {
+  label = [];
+  rest = flat_map word_text line.words;
+  pieces = map word line.words;
+  spelled = refl;
+  numbered = tt;
+  each = spells_words line.words (all_words line h);
+  has = λ t. record { words = same_words line.words t; settings = (h.no_settings ∙ no_settings line.words) t };
+}
+
 stands_for_line : (line : Line) → IsWrittenLine line → StandsForLine (line_text line) line
 stands_for_line line h =
     let written = all_words line h in
-    (h.short, subst (λ t. SpellsWords t line.words) (sym (unblanked_words line.words written)) (spells_words line.words written))
+    (h.short, inr (subst (λ t. SpellsPlainLine t line) (sym (unblanked_words line.words written)) (spells_line line h)))
 
 -- ---- lines
 
@@ -262,7 +288,7 @@ no_return (x ∷ xs) (suc k) h = no_return xs k h.1
 stripped : (xs : List ℕ) → AllByRecursion Inside xs → strip_carriage_return xs ≡ xs
 stripped xs h = ap (λ b. cond b (take (length xs - 1) xs) xs) (no_return xs (length xs - 1) h)
 
-parts_of : (parts : List (List ℕ)) (x bytes : List ℕ) → parts ≡ slice_split (λ b. b == 10) bytes → lines_of_parts (x ∷ parts) ≡ strip_carriage_return x ∷ lines_of_parts parts
+pub parts_of : (parts : List (List ℕ)) (x bytes : List ℕ) → parts ≡ slice_split (λ b. b == 10) bytes → lines_of_parts (x ∷ parts) ≡ strip_carriage_return x ∷ lines_of_parts parts
 parts_of [] x bytes e = absurd (omega (arith, ap length e, length-slice_split (λ b. b == 10) bytes))
 parts_of (y ∷ more) x bytes e = refl
 
