@@ -16,7 +16,7 @@ use Rattle.apertures.specs.Defined.{at}
 use Rattle.gerber_image.specs.Image.{shifted_point, shifted_part, shifted_piece, shifted, copy, copies_of}
 use Rattle.gerber_image.specs.Checks.{is_far, part_leaves, piece_leaves, is_outside}
 use Rattle.gerber_image.specs.Copies.{AreInside}
-use Rattle.gerber_image.specs.declared.command.Repeat.{Repeat}
+use Rattle.gerber_image.specs.declared.repeat.Repeat.{Repeat}
 use Rattle.shape_parts.specs.declared.shape.Painted.{Painted}
 
 pub or_false : (a b : Bool) → (a || b) ≡ false → (a ≡ false) × (b ≡ false)

@@ -18,9 +18,9 @@ use Rattle.gerber_image.specs.Objects.{capped, excess}
 use Rattle.gerber_image.specs.Checks.{excess_of}
 use Rattle.gerber_image.specs.State.{listed}
 use Rattle.gerber_image.specs.Regions.{without_return, area_through, area_of}
-use Rattle.gerber_image.specs.declared.command.GerberKind.{GerberKind}
-use Rattle.gerber_image.specs.declared.command.GerberKind.TheVariants as kinds
-use Rattle.gerber_image.specs.declared.command.Repeat.{Repeat}
+use Rattle.gerber_image.specs.declared.refusal.GerberKind.{GerberKind}
+use Rattle.gerber_image.specs.declared.refusal.GerberKind.TheVariants as kinds
+use Rattle.gerber_image.specs.declared.repeat.Repeat.{Repeat}
 
 -- ---- objects one after the other
 

@@ -1,10 +1,9 @@
-pub mod NumeralLaws
 pub mod PlaceLaws
 pub mod Copies
 pub mod Shifts
 pub mod Counts
 pub mod Points
-pub mod Ways
+pub mod RouteLaws
 pub mod ReadyLaws
 pub mod ReachedLaws
 pub mod OneOutcome

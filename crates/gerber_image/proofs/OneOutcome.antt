@@ -1,11 +1,11 @@
 -- Bytes stand for one thing at most.
 use Rattle.std.proofs.Common.{◌≡◌, ℕ, zero, suc, ◌-◌, ◌<◌, Bool, true, false, List, [], ◌∷◌, length, drop, Option, Some, None, unwrap_or, Result, Ok, Err, refl, ap, sym, ◌∙◌, arith, nat_lt, length-drop}
 use Rattle.number_laws.proofs.Tests.{by_bool}
-use Rattle.gerber_lexer.specs.declared.lexer.Command.{Command}
+use Rattle.gerber_lexer.specs.declared.lexer.Span.{Span}
 use Rattle.gerber_image.specs.Laws.{OneOutcome, StaysSet, EachStaysSet}
-use Rattle.gerber_image.specs.declared.command.Said.{Said}
-use Rattle.gerber_image.specs.InForce.{sets_format, sets_unit, sets_dark, sets_mirror, sets_angle, sets_mode, sets_quadrants, sets_region, sets_selected, sets_act, sets_aperture, sets_x, sets_y, sets_repeat, format_at, unit_at}
-use Rattle.gerber_image.specs.Gerber.{Read, Outcome, BeginsWith, next_behind, said_by, outcome_behind}
+use Rattle.gerber_words.specs.declared.commands.Command.{Command}
+use Rattle.gerber_image.specs.InForce.{sets_format, sets_unit, sets_dark, sets_mirror, sets_angle, sets_mode, sets_multi_quadrant, sets_region, sets_selected, sets_act, sets_aperture, sets_x, sets_y, sets_repeat, format_at, unit_at}
+use Rattle.gerber_image.specs.Gerber.{Read, Outcome, BeginsWith, next_behind, command_by, outcome_behind}
 
 -- the commands before the last few
 dropped : (bytes : List ℕ) (k : ℕ) (q : List Read) → BeginsWith bytes q → BeginsWith bytes (drop k q)
@@ -19,10 +19,10 @@ not_yet bytes k [] b h = absurd (omega (arith, h))
 not_yet bytes zero (r ∷ q) b h = b.2
 not_yet bytes (suc k) (r ∷ q) b h = not_yet bytes k q b.3 (omega (arith, h))
 
-abbrev place_or : Command → Result (Option Command) ℕ → Command
-place_or c (Ok (Some d)) = d
-place_or c (Ok None) = c
-place_or c (Err e) = c
+abbrev span_or : Span → Result (Option Span) ℕ → Span
+span_or c (Ok (Some d)) = d
+span_or c (Ok None) = c
+span_or c (Err e) = c
 
 -- as many commands are the same commands
 same : (bytes : List ℕ) (p q : List Read) → length p ≡ length q → BeginsWith bytes p → BeginsWith bytes q → p ≡ q
@@ -31,9 +31,9 @@ same bytes [] (s ∷ q) e a b = absurd (omega (arith, e))
 same bytes (r ∷ p) [] e a b = absurd (omega (arith, e))
 same bytes (r ∷ p) (s ∷ q) e a b =
     let rest : p ≡ q = same bytes p q (omega (arith, e)) a.3 b.3 in
-    let place : r.place ≡ s.place = sym (ap (place_or r.place) a.0) ∙ ap (λ l. place_or r.place (next_behind bytes l)) rest ∙ ap (place_or r.place) b.0 in
-    let said : r.said ≡ s.said = sym (ap (λ o. unwrap_or o r.said) a.1) ∙ ap (λ c. unwrap_or (said_by bytes c) r.said) place ∙ ap (λ o. unwrap_or o r.said) b.1 in
-    λ t. record { place = place t; said = said t } ∷ rest t
+    let span : r.span ≡ s.span = sym (ap (span_or r.span) a.0) ∙ ap (λ l. span_or r.span (next_behind bytes l)) rest ∙ ap (span_or r.span) b.0 in
+    let command : r.command ≡ s.command = sym (ap (λ o. unwrap_or o r.command) a.1) ∙ ap (λ c. unwrap_or (command_by bytes c) r.command) span ∙ ap (λ o. unwrap_or o r.command) b.1 in
+    λ t. record { span = span t; command = command t } ∷ rest t
 
 -- what comes behind fewer commands is no outcome
 fewer : {P : Type 0} (bytes : List ℕ) (p q : List Read) (a : Outcome) → BeginsWith bytes p → BeginsWith bytes q → outcome_behind bytes p ≡ Some a → length p < length q → P
@@ -60,9 +60,9 @@ one_outcome bytes a b (p, bp, ep) (q, bq, eq) = by_bool (nat_lt (length p) (leng
     let e : Some a ≡ Some b = sym ep ∙ ap (outcome_behind bytes) (same bytes p q len bp bq) ∙ eq in
     ap (λ o. unwrap_or o a) e))
 
-stays_set : {A : Type 0} (sets : List Said → Said → Option A) → StaysSet sets
-stays_set sets [] past said value e n = rw e refl
-stays_set sets (c ∷ nearer) past said value e n = rw n.0 (stays_set sets nearer past said value e n.1)
+stays_set : {A : Type 0} (sets : List Command → Command → Option A) → StaysSet sets
+stays_set sets [] past command value e n = rw e refl
+stays_set sets (c ∷ nearer) past command value e n = rw n.0 (stays_set sets nearer past command value e n.1)
 
 pub each_stays_set : EachStaysSet
 each_stays_set = record {
@@ -72,7 +72,7 @@ each_stays_set = record {
   mirror = stays_set (λ _. sets_mirror);
   angle = stays_set (λ _. sets_angle);
   mode = stays_set (λ _. sets_mode);
-  quadrants = stays_set (λ _. sets_quadrants);
+  multi_quadrant = stays_set (λ _. sets_multi_quadrant);
   region = stays_set (λ _. sets_region);
   selected = stays_set (λ _. sets_selected);
   aperture = λ number. stays_set (λ past. sets_aperture number (unit_at past));

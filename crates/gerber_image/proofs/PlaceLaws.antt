@@ -12,11 +12,11 @@ use Rattle.apertures.specs.Texts.{length_of, IsSize}
 use Rattle.gerber_image.specs.InForce.{step_length}
 use Rattle.apertures.specs.Defined.{at}
 use Rattle.gerber_image.specs.Checks.{is_far, is_long}
-use Rattle.gerber_image.specs.Fits.{IsWritten}
+use Rattle.gerber_words.specs.Fits.{IsWritten}
 use Rattle.gerber_image.specs.Numbers.{unit_size, nanometres}
-use Rattle.gerber_image.specs.declared.command.Format.{Format}
-use Rattle.gerber_image.specs.declared.command.Digits.{Digits}
-use Rattle.gerber_image.proofs.NumeralLaws.{some_digits}
+use Rattle.gerber_words.specs.declared.commands.Format.{Format}
+use Rattle.gerber_words.specs.declared.commands.Digits.{Digits}
+use Rattle.gerber_words.proofs.NumeralLaws.{some_digits}
 use Rattle.std.proofs.Common.{pow-add}
 use Rattle.std.proofs.Math.Nat.{pow-le-pow_right, mul-le-mul_right}
 

@@ -1,8 +1,8 @@
 -- What a reader answers.
 use Rattle.std.specs.Prelude.{◌≡◌, ◌⊎◌, ℕ, List, Err}
 use Rattle.gerber_image.specs.Gerber.{StandsFor}
-use Rattle.gerber_image.specs.declared.command.GerberError.{GerberError}
-use Rattle.gerber_image.specs.declared.command.GerberKind.TheVariants as kinds
+use Rattle.gerber_image.specs.declared.refusal.GerberError.{GerberError}
+use Rattle.gerber_image.specs.declared.refusal.GerberKind.TheVariants as kinds
 
 -- the refusal that the bytes stand for, or want of memory
 abbrev pub Refuses : List ℕ → GerberError → Type 0

@@ -21,15 +21,15 @@ use Rattle.gerber_image.specs.Routes.{place_after, mode_after, is_curved, arc_ce
 use Rattle.gerber_image.specs.Regions.{Outline}
 use Rattle.gerber_image.specs.Image.{figure_of, copies, outline_at, block_at, painted_by, painted_after, vertices_in}
 use Rattle.gerber_image.specs.Objects.{excess}
-use Rattle.gerber_image.specs.declared.command.Format.{Format}
-use Rattle.gerber_image.specs.declared.command.Digits.{Digits}
-use Rattle.gerber_image.specs.declared.command.Act.{Act}
-use Rattle.gerber_image.specs.declared.command.Act.TheVariants as acts
-use Rattle.gerber_image.specs.declared.command.Operation.{Operation}
-use Rattle.gerber_image.specs.declared.command.Said.{Said}
-use Rattle.gerber_image.specs.declared.command.Said.TheVariants as says
-use Rattle.gerber_image.specs.declared.command.GerberKind.{GerberKind}
-use Rattle.gerber_image.specs.declared.command.GerberKind.TheVariants as kinds
+use Rattle.gerber_words.specs.declared.commands.Format.{Format}
+use Rattle.gerber_words.specs.declared.commands.Digits.{Digits}
+use Rattle.gerber_words.specs.declared.commands.Act.{Act}
+use Rattle.gerber_words.specs.declared.commands.Act.TheVariants as acts
+use Rattle.gerber_words.specs.declared.commands.Operation.{Operation}
+use Rattle.gerber_words.specs.declared.commands.Command.{Command}
+use Rattle.gerber_words.specs.declared.commands.Command.TheVariants as commands
+use Rattle.gerber_image.specs.declared.refusal.GerberKind.{GerberKind}
+use Rattle.gerber_image.specs.declared.refusal.GerberKind.TheVariants as kinds
 
 -- of a list of tests and kinds the kind of the first test that holds
 abbrev pub first_fault : List (Bool × GerberKind) → Option GerberKind
@@ -64,13 +64,13 @@ is_no_aperture (Err errors.Syntax) = true
 is_no_aperture _ = false
 
 -- the commands that may not stand here
-abbrev pub is_misplaced : InForce → Said → Bool
-is_misplaced now (says.Format format) = not (same_format format now.format)
-is_misplaced now (says.Unit unit in_block) = not (same_unit unit now.unit)
-is_misplaced now (says.Define number template) = is_no_aperture (defined_under now.unit template)
-is_misplaced now says.Close = is_none now.repeat
-is_misplaced now says.EndRegion = not now.region
-is_misplaced now (says.Operate o) = is_none (option_or o.act now.act) || has_long now.format o
+abbrev pub is_misplaced : InForce → Command → Bool
+is_misplaced now (commands.Format format) = not (same_format format now.format)
+is_misplaced now (commands.Unit unit in_block) = not (same_unit unit now.unit)
+is_misplaced now (commands.Define number template) = is_no_aperture (defined_under now.unit template)
+is_misplaced now commands.CloseRepeat = is_none now.repeat
+is_misplaced now commands.EndRegion = not now.region
+is_misplaced now (commands.Operate o) = is_none (option_or o.act now.act) || has_long now.format o
 is_misplaced now _ = false
 
 -- NotBuiltYet.
@@ -81,9 +81,9 @@ is_unbuilt_aperture (Err errors.NotBuiltYet) = true
 is_unbuilt_aperture _ = false
 
 -- what isn't built yet
-abbrev pub is_unbuilt : InForce → Said → Bool
-is_unbuilt now says.NotBuiltYet = true
-is_unbuilt now (says.Define number template) = is_unbuilt_aperture (defined_under now.unit template)
+abbrev pub is_unbuilt : InForce → Command → Bool
+is_unbuilt now commands.NotBuiltYet = true
+is_unbuilt now (commands.Define number template) = is_unbuilt_aperture (defined_under now.unit template)
 is_unbuilt now _ = false
 
 -- Unsupported.
@@ -105,31 +105,31 @@ is_draw _ = false
 
 -- an arc where arcs may not be longer than a quarter
 abbrev pub is_short_arc : InForce → Operation → Bool
-is_short_arc now o = is_curved (mode_after now o) && not now.quadrants
+is_short_arc now o = is_curved (mode_after now o) && not now.multi_quadrant
 
 -- a stroke with an aperture that makes none
 abbrev pub lacks_stroke : InForce → Bool
 lacks_stroke now = not now.region && is_strokeless (figure_of now.selected now.aperture)
 
 -- what is left out
-abbrev pub is_left_out : InForce → Said → Bool
-is_left_out now says.Unsupported = true
-is_left_out now (says.Define number template) = is_unsupported_aperture (defined_under now.unit template)
-is_left_out now (says.Operate o) = is_draw (option_or o.act now.act) && (is_short_arc now o || lacks_stroke now)
+abbrev pub is_left_out : InForce → Command → Bool
+is_left_out now commands.Unsupported = true
+is_left_out now (commands.Define number template) = is_unsupported_aperture (defined_under now.unit template)
+is_left_out now (commands.Operate o) = is_draw (option_or o.act now.act) && (is_short_arc now o || lacks_stroke now)
 is_left_out now _ = false
 
 -- NoFormat, NoUnit and NoAperture.
 
 -- an operation with a coordinate
-abbrev pub has_coordinate : Said → Bool
-has_coordinate (says.Operate o) = is_some o.x || is_some o.y || is_some o.i || is_some o.j
+abbrev pub has_coordinate : Command → Bool
+has_coordinate (commands.Operate o) = is_some o.x || is_some o.y || is_some o.i || is_some o.j
 has_coordinate _ = false
 
 -- a command with a length
-abbrev pub needs_unit : Said → Bool
-needs_unit (says.Define number template) = true
-needs_unit (says.Open columns rows dx dy) = true
-needs_unit said = has_coordinate said
+abbrev pub needs_unit : Command → Bool
+needs_unit (commands.Define number template) = true
+needs_unit (commands.OpenRepeat columns rows dx dy) = true
+needs_unit command = has_coordinate command
 
 -- a flash
 abbrev pub is_flash : Option Act → Bool
@@ -141,34 +141,34 @@ abbrev pub wants_aperture : Bool → Option Act → Bool
 wants_aperture region act = is_flash act || (is_draw act && not region)
 
 -- an undefined aperture is selected, or none is where one is wanted
-abbrev pub lacks_aperture : InForce → Said → Bool
-lacks_aperture now (says.Select number) = is_none (figure_of number now.aperture)
-lacks_aperture now (says.Operate o) = wants_aperture now.region (option_or o.act now.act) && is_none now.selected
+abbrev pub lacks_aperture : InForce → Command → Bool
+lacks_aperture now (commands.Select number) = is_none (figure_of number now.aperture)
+lacks_aperture now (commands.Operate o) = wants_aperture now.region (option_or o.act now.act) && is_none now.selected
 lacks_aperture now _ = false
 
 -- OpenRegion.
 
 -- what a region may not hold: a flash, another region, the end, and what stands between percent signs, but for attributes and names
-abbrev pub is_barred : InForce → Said → Bool
-is_barred now (says.Operate o) = is_flash (option_or o.act now.act)
-is_barred now (says.Unit unit in_block) = in_block
-is_barred now says.BeginRegion = true
-is_barred now says.End = true
-is_barred now (says.Format format) = true
-is_barred now (says.Polarity dark) = true
-is_barred now (says.Mirror mirror) = true
-is_barred now (says.Rotation angle) = true
-is_barred now (says.Define number template) = true
-is_barred now (says.Open columns rows dx dy) = true
-is_barred now says.Close = true
-is_barred now says.Restated = true
+abbrev pub is_barred : InForce → Command → Bool
+is_barred now (commands.Operate o) = is_flash (option_or o.act now.act)
+is_barred now (commands.Unit unit in_block) = in_block
+is_barred now commands.BeginRegion = true
+is_barred now commands.End = true
+is_barred now (commands.Format format) = true
+is_barred now (commands.Polarity dark) = true
+is_barred now (commands.Mirror mirror) = true
+is_barred now (commands.Rotation angle) = true
+is_barred now (commands.Define number template) = true
+is_barred now (commands.OpenRepeat columns rows dx dy) = true
+is_barred now commands.CloseRepeat = true
+is_barred now commands.DeprecatedSetting = true
 is_barred now _ = false
 
 -- OpenRepeat.
 
 -- the end of the file's commands
-abbrev pub is_end : Said → Bool
-is_end says.End = true
+abbrev pub is_end : Command → Bool
+is_end commands.End = true
 is_end _ = false
 
 -- OpenArc.
@@ -179,8 +179,8 @@ is_open (Err (arc_errors.OpenArc start_radius end_radius)) = true
 is_open _ = false
 
 -- an arc that its ends don't close
-abbrev pub opens_arc : InForce → Said → Bool
-opens_arc now (says.Operate o) = is_draw (option_or o.act now.act) && is_open (route now o)
+abbrev pub opens_arc : InForce → Command → Bool
+opens_arc now (commands.Operate o) = is_draw (option_or o.act now.act) && is_open (route now o)
 opens_arc now _ = false
 
 -- OutOfRange.
@@ -233,11 +233,11 @@ act_leaves (Some acts.Flash) now o = flash_leaves now o (figure_of now.selected 
 act_leaves _ now o = false
 
 -- what a command brings past the range
-abbrev pub leaves_range : InForce → List Painted → Said → Bool
-leaves_range now block (says.Operate o) = is_far (place_after now o) || act_leaves (option_or o.act now.act) now o
-leaves_range now block (says.Define number template) = is_great (defined_under now.unit template)
-leaves_range now block says.Close = list_any is_outside (copies now.repeat block)
-leaves_range now block (says.Open columns rows dx dy) = list_any is_outside (copies now.repeat block)
+abbrev pub leaves_range : InForce → List Painted → Command → Bool
+leaves_range now block (commands.Operate o) = is_far (place_after now o) || act_leaves (option_or o.act now.act) now o
+leaves_range now block (commands.Define number template) = is_great (defined_under now.unit template)
+leaves_range now block commands.CloseRepeat = list_any is_outside (copies now.repeat block)
+leaves_range now block (commands.OpenRepeat columns rows dx dy) = list_any is_outside (copies now.repeat block)
 leaves_range now block _ = false
 
 -- All of them.
@@ -250,22 +250,22 @@ pub record Held : Type 0 where
   pub painted : List Painted
 
 -- the same behind these commands
-abbrev pub held : List Said → Held
+abbrev pub held : List Command → Held
 held past = record { now = in_force past; outline = outline_at past; block = block_at past; painted = painted_by past }
 
 -- the first check of a command that fails, the counts of objects and vertices aside
-abbrev pub first_fault_of : InForce → List Painted → Said → Option GerberKind
-first_fault_of now block said =
-    first_fault ((is_misplaced now said, kinds.Syntax)
-    ∷ (is_unbuilt now said, kinds.NotBuiltYet)
-    ∷ (is_left_out now said, kinds.Unsupported)
-    ∷ (has_coordinate said && is_none now.format, kinds.NoFormat)
-    ∷ (needs_unit said && is_none now.unit, kinds.NoUnit)
-    ∷ (lacks_aperture now said, kinds.NoAperture)
-    ∷ (now.region && is_barred now said, kinds.OpenRegion)
-    ∷ (is_end said && is_some now.repeat, kinds.OpenRepeat)
-    ∷ (opens_arc now said, kinds.OpenArc)
-    ∷ (leaves_range now block said, kinds.OutOfRange)
+abbrev pub first_fault_of : InForce → List Painted → Command → Option GerberKind
+first_fault_of now block command =
+    first_fault ((is_misplaced now command, kinds.Syntax)
+    ∷ (is_unbuilt now command, kinds.NotBuiltYet)
+    ∷ (is_left_out now command, kinds.Unsupported)
+    ∷ (has_coordinate command && is_none now.format, kinds.NoFormat)
+    ∷ (needs_unit command && is_none now.unit, kinds.NoUnit)
+    ∷ (lacks_aperture now command, kinds.NoAperture)
+    ∷ (now.region && is_barred now command, kinds.OpenRegion)
+    ∷ (is_end command && is_some now.repeat, kinds.OpenRepeat)
+    ∷ (opens_arc now command, kinds.OpenArc)
+    ∷ (leaves_range now block command, kinds.OutOfRange)
     ∷ [])
 
 -- what there is too much of among the objects
@@ -273,9 +273,9 @@ abbrev pub excess_of : List Painted → Option GerberKind
 excess_of painted = excess (length painted) (vertices_in painted)
 
 -- the same of what is painted behind a command
-abbrev pub count_fault : Held → Said → Option GerberKind
-count_fault h said = excess_of (painted_after h.now h.outline h.block h.painted said)
+abbrev pub count_fault : Held → Command → Option GerberKind
+count_fault h command = excess_of (painted_after h.now h.outline h.block h.painted command)
 
 -- the first check of a command that fails
-abbrev pub fault_of : Held → Said → Option GerberKind
-fault_of h said = option_or (first_fault_of h.now h.block said) (count_fault h said)
+abbrev pub fault_of : Held → Command → Option GerberKind
+fault_of h command = option_or (first_fault_of h.now h.block command) (count_fault h command)

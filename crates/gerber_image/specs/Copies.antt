@@ -6,7 +6,7 @@ use Rattle.plane_arcs.specs.Turned.{point_at}
 use Rattle.shape_parts.specs.declared.shape.Painted.{Painted}
 use Rattle.gerber_image.specs.Image.{copy}
 use Rattle.gerber_image.specs.Checks.{is_outside}
-use Rattle.gerber_image.specs.declared.command.Repeat.{Repeat}
+use Rattle.gerber_image.specs.declared.repeat.Repeat.{Repeat}
 use Rattle.gerber_image.specs.declared.repeat.Shift.{Shift}
 
 -- where a shift leads, if that is in the range

@@ -15,12 +15,12 @@ use Rattle.apertures.specs.Placed.{placed}
 use Rattle.gerber_image.specs.InForce.{InForce, in_force}
 use Rattle.gerber_image.specs.Routes.{place_after, route, added, strokes}
 use Rattle.gerber_image.specs.Regions.{Outline, no_outline, contours_of, region_of}
-use Rattle.gerber_image.specs.declared.command.Act.{Act}
-use Rattle.gerber_image.specs.declared.command.Act.TheVariants as acts
-use Rattle.gerber_image.specs.declared.command.Operation.{Operation}
-use Rattle.gerber_image.specs.declared.command.Repeat.{Repeat}
-use Rattle.gerber_image.specs.declared.command.Said.{Said}
-use Rattle.gerber_image.specs.declared.command.Said.TheVariants as says
+use Rattle.gerber_words.specs.declared.commands.Act.{Act}
+use Rattle.gerber_words.specs.declared.commands.Act.TheVariants as acts
+use Rattle.gerber_words.specs.declared.commands.Operation.{Operation}
+use Rattle.gerber_image.specs.declared.repeat.Repeat.{Repeat}
+use Rattle.gerber_words.specs.declared.commands.Command.{Command}
+use Rattle.gerber_words.specs.declared.commands.Command.TheVariants as commands
 
 -- the selected aperture
 abbrev pub figure_of : Option ℕ → (ℕ → Option Figure) → Option Figure
@@ -54,10 +54,10 @@ traced (Some acts.Move) now outline o = record { ended = contours_of outline; po
 traced _ now outline o = outline
 
 -- The contours of the open region behind a command. The first starts at the current point.
-abbrev pub outline_after : InForce → Outline → Said → Outline
-outline_after now outline says.BeginRegion = record { ended = []; points = at now.x now.y ∷ [] }
-outline_after now outline says.EndRegion = no_outline
-outline_after now outline (says.Operate o) = if now.region then traced (option_or o.act now.act) now outline o else outline
+abbrev pub outline_after : InForce → Outline → Command → Outline
+outline_after now outline commands.BeginRegion = record { ended = []; points = at now.x now.y ∷ [] }
+outline_after now outline commands.EndRegion = no_outline
+outline_after now outline (commands.Operate o) = if now.region then traced (option_or o.act now.act) now outline o else outline
 outline_after now outline _ = outline
 
 -- a point shifted by whole steps
@@ -93,36 +93,36 @@ copies (Some r) block = copies_of r block
 
 -- The block of the open repeat behind a command: SR ends it, and an operation or the end of a region adds to it where
 -- a repeat is open.
-abbrev pub block_after : InForce → Outline → List Painted → Said → List Painted
-block_after now outline block (says.Operate o) = if is_none now.repeat then block else block ++ object_of now o
-block_after now outline block says.EndRegion = if is_none now.repeat then block else block ++ region_of now.dark outline ∷ []
-block_after now outline block (says.Open columns rows dx dy) = []
-block_after now outline block says.Close = []
+abbrev pub block_after : InForce → Outline → List Painted → Command → List Painted
+block_after now outline block (commands.Operate o) = if is_none now.repeat then block else block ++ object_of now o
+block_after now outline block commands.EndRegion = if is_none now.repeat then block else block ++ region_of now.dark outline ∷ []
+block_after now outline block (commands.OpenRepeat columns rows dx dy) = []
+block_after now outline block commands.CloseRepeat = []
 block_after now outline block _ = block
 
 -- What is painted behind a command: an operation and the end of a region paint their object where no repeat is open, and
 -- SR the copies of the block of an open one.
-abbrev pub painted_after : InForce → Outline → List Painted → List Painted → Said → List Painted
-painted_after now outline block painted (says.Operate o) = if is_none now.repeat then painted ++ object_of now o else painted
-painted_after now outline block painted says.EndRegion = if is_none now.repeat then painted ++ region_of now.dark outline ∷ [] else painted
-painted_after now outline block painted (says.Open columns rows dx dy) = painted ++ copies now.repeat block
-painted_after now outline block painted says.Close = painted ++ copies now.repeat block
+abbrev pub painted_after : InForce → Outline → List Painted → List Painted → Command → List Painted
+painted_after now outline block painted (commands.Operate o) = if is_none now.repeat then painted ++ object_of now o else painted
+painted_after now outline block painted commands.EndRegion = if is_none now.repeat then painted ++ region_of now.dark outline ∷ [] else painted
+painted_after now outline block painted (commands.OpenRepeat columns rows dx dy) = painted ++ copies now.repeat block
+painted_after now outline block painted commands.CloseRepeat = painted ++ copies now.repeat block
 painted_after now outline block painted _ = painted
 
 -- the contours of the open region
-abbrev pub outline_at : List Said → Outline
+abbrev pub outline_at : List Command → Outline
 outline_at [] = no_outline
-outline_at (said ∷ past) = outline_after (in_force past) (outline_at past) said
+outline_at (command ∷ past) = outline_after (in_force past) (outline_at past) command
 
 -- the objects since the open repeat was opened
-abbrev pub block_at : List Said → List Painted
+abbrev pub block_at : List Command → List Painted
 block_at [] = []
-block_at (said ∷ past) = block_after (in_force past) (outline_at past) (block_at past) said
+block_at (command ∷ past) = block_after (in_force past) (outline_at past) (block_at past) command
 
 -- the image of these commands
-abbrev pub painted_by : List Said → List Painted
+abbrev pub painted_by : List Command → List Painted
 painted_by [] = []
-painted_by (said ∷ past) = painted_after (in_force past) (outline_at past) (block_at past) (painted_by past) said
+painted_by (command ∷ past) = painted_after (in_force past) (outline_at past) (block_at past) (painted_by past) command
 
 -- how many points the areas of the objects have
 abbrev pub vertices_in : List Painted → ℕ

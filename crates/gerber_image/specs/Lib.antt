@@ -1,7 +1,3 @@
-pub mod Texts
-pub mod Numerals
-pub mod Words
-pub mod Extended
 pub mod Numbers
 pub mod InForce
 pub mod Routes
@@ -11,7 +7,6 @@ pub mod Objects
 pub mod Checks
 pub mod State
 pub mod Copies
-pub mod Fits
 pub mod Gerber
 pub mod Answer
 pub mod Reached

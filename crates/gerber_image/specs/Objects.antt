@@ -1,7 +1,7 @@
 -- How much an image may hold.
 use Rattle.std.specs.Prelude.{ℕ, ◌^◌, Option, Some, None, if◌then◌else◌, nat_lt}
-use Rattle.gerber_image.specs.declared.command.GerberKind.{GerberKind}
-use Rattle.gerber_image.specs.declared.command.GerberKind.TheVariants.{TooManyObjects, TooManyVertices}
+use Rattle.gerber_image.specs.declared.refusal.GerberKind.{GerberKind}
+use Rattle.gerber_image.specs.declared.refusal.GerberKind.TheVariants.{TooManyObjects, TooManyVertices}
 
 -- a number of vertices, or one more than an image may have
 abbrev pub capped : ℕ → ℕ

@@ -1,15 +1,15 @@
 -- The one outcome of the bytes of a Gerber file.
 use Rattle.std.specs.Prelude.{◌≡◌, ◌⊎◌, ℕ, zero, suc, ◌+◌, List, [], ◌∷◌, length, Option, Some, None, unwrap_or, Result, Ok, Err, MatchResult}
 use Rattle.std.specs.Option.{option_map}
-use Rattle.gerber_lexer.specs.declared.lexer.Command.{Command}
+use Rattle.gerber_lexer.specs.declared.lexer.Span.{Span}
 use Rattle.shape_parts.specs.declared.shape.Painted.{Painted}
-use Rattle.gerber_image.specs.Gerber.{Read, Outcome, next_behind, said_by, outcome_behind, StandsFor}
-use Rattle.gerber_image.specs.declared.command.GerberError.{GerberError}
-use Rattle.gerber_image.specs.declared.command.GerberKind.TheVariants as kinds
+use Rattle.gerber_image.specs.Gerber.{Read, Outcome, next_behind, command_by, outcome_behind, StandsFor}
+use Rattle.gerber_image.specs.declared.refusal.GerberError.{GerberError}
+use Rattle.gerber_image.specs.declared.refusal.GerberKind.TheVariants as kinds
 
 -- a command that says something
-abbrev pub read_in : List ℕ → Result (Option Command) ℕ → Option Read
-read_in bytes (Ok (Some place)) = option_map (λ said. record { place = place; said = said }) (said_by bytes place)
+abbrev pub read_in : List ℕ → Result (Option Span) ℕ → Option Read
+read_in bytes (Ok (Some span)) = option_map (λ command. record { span = span; command = command }) (command_by bytes span)
 read_in bytes _ = None
 
 -- with one more command, if there is one

@@ -7,41 +7,41 @@ use Rattle.plane_arcs.specs.declared.arcs.ArcError.{ArcError}
 use Rattle.shape_parts.specs.declared.shape.Part.TheVariants.{Capsule}
 use Rattle.shape_parts.specs.declared.shape.Piece.{Piece}
 use Rattle.apertures.specs.Defined.{at, solid}
-use Rattle.gerber_image.specs.InForce.{InForce, said_place}
-use Rattle.gerber_image.specs.declared.command.Digits.{Digits}
-use Rattle.gerber_image.specs.declared.command.Mode.{Mode}
-use Rattle.gerber_image.specs.declared.command.Mode.TheVariants as modes
-use Rattle.gerber_image.specs.declared.command.Operation.{Operation}
+use Rattle.gerber_image.specs.InForce.{InForce, coordinate_of}
+use Rattle.gerber_words.specs.declared.commands.Digits.{Digits}
+use Rattle.gerber_words.specs.declared.commands.Interpolation.{Interpolation}
+use Rattle.gerber_words.specs.declared.commands.Interpolation.TheVariants as modes
+use Rattle.gerber_words.specs.declared.commands.Operation.{Operation}
 
 -- the x to which an operation leads, by what is in force
 abbrev pub x_after : InForce → Operation → ℤ
-x_after now o = unwrap_or (said_place now.format now.unit o.x) now.x
+x_after now o = unwrap_or (coordinate_of now.format now.unit o.x) now.x
 
 -- its y
 abbrev pub y_after : InForce → Operation → ℤ
-y_after now o = unwrap_or (said_place now.format now.unit o.y) now.y
+y_after now o = unwrap_or (coordinate_of now.format now.unit o.y) now.y
 
 -- the point to which it leads
 abbrev pub place_after : InForce → Operation → Point
 place_after now o = at (x_after now o) (y_after now o)
 
 -- the mode in which it leads there
-abbrev pub mode_after : InForce → Operation → Mode
+abbrev pub mode_after : InForce → Operation → Interpolation
 mode_after now o = unwrap_or o.mode now.mode
 
 -- along an arc
-abbrev pub is_curved : Mode → Bool
+abbrev pub is_curved : Interpolation → Bool
 is_curved modes.Linear = false
 is_curved _ = true
 
 -- counterclockwise
-abbrev pub turns_left : Mode → Bool
+abbrev pub turns_left : Interpolation → Bool
 turns_left modes.Counterclockwise = true
 turns_left _ = false
 
 -- how far I or J leads: 0 where it isn't said
 abbrev pub offset : InForce → Option Digits → ℤ
-offset now digits = unwrap_or (said_place now.format now.unit digits) (pos 0)
+offset now digits = unwrap_or (coordinate_of now.format now.unit digits) (pos 0)
 
 -- the centre of an operation's arc: I and J are counted from the current point
 unfoldable pub arc_centre : InForce → Operation → Point

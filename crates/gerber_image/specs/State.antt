@@ -6,26 +6,26 @@ use Rattle.std.specs.List.{list_any}
 use Rattle.std.specs.BTreeMap.{get}
 use Rattle.board_base.specs.Places.{IsPlace}
 use Rattle.apertures.specs.declared.place.Mirror.TheVariants as mirrors
-use Rattle.gerber_image.specs.InForce.{InForce, sets_format, sets_unit, sets_dark, sets_mirror, sets_angle, sets_mode, sets_quadrants, sets_region, sets_selected, sets_act, sets_x, sets_y, sets_aperture, sets_repeat}
+use Rattle.gerber_image.specs.InForce.{InForce, sets_format, sets_unit, sets_dark, sets_mirror, sets_angle, sets_mode, sets_multi_quadrant, sets_region, sets_selected, sets_act, sets_x, sets_y, sets_aperture, sets_repeat}
 use Rattle.apertures.specs.Defined.{at}
 use Rattle.gerber_image.specs.Regions.{no_outline}
 use Rattle.gerber_image.specs.Routes.{place_after, route}
 use Rattle.gerber_image.specs.Image.{outline_after, block_after, painted_after, copies, figure_of}
 use Rattle.gerber_image.specs.Checks.{Held, fault_of, is_outside, excess_of, is_open, is_far, is_flash, draw_leaves, flash_leaves}
-use Rattle.gerber_image.specs.declared.command.Mode.TheVariants as modes
-use Rattle.gerber_image.specs.declared.command.Act.{Act}
-use Rattle.gerber_image.specs.declared.command.Operation.{Operation}
-use Rattle.gerber_image.specs.declared.command.Repeat.{Repeat}
-use Rattle.gerber_image.specs.declared.command.Said.{Said}
-use Rattle.gerber_image.specs.declared.command.GerberKind.{GerberKind}
-use Rattle.gerber_image.specs.declared.command.GerberKind.TheVariants as kinds
+use Rattle.gerber_words.specs.declared.commands.Interpolation.TheVariants as modes
+use Rattle.gerber_words.specs.declared.commands.Act.{Act}
+use Rattle.gerber_words.specs.declared.commands.Operation.{Operation}
+use Rattle.gerber_image.specs.declared.repeat.Repeat.{Repeat}
+use Rattle.gerber_words.specs.declared.commands.Command.{Command}
+use Rattle.gerber_image.specs.declared.refusal.GerberKind.{GerberKind}
+use Rattle.gerber_image.specs.declared.refusal.GerberKind.TheVariants as kinds
 use Rattle.gerber_image.specs.declared.state.State.{State}
 use Rattle.gerber_image.specs.declared.state.Stop.{Stop}
 use Rattle.gerber_image.specs.declared.state.Stop.TheVariants as stops
 
 -- what a state keeps
-abbrev pub kept : State → Held
-kept s = record {
+abbrev pub held_of : State → Held
+held_of s = record {
   now = record {
     format = s.format;
     unit = s.unit;
@@ -33,7 +33,7 @@ kept s = record {
     mirror = s.mirror;
     angle = s.angle;
     mode = s.mode;
-    quadrants = s.quadrants;
+    multi_quadrant = s.multi_quadrant;
     region = s.region;
     selected = s.selected;
     aperture = λ number. get nat_cmp s.apertures number;
@@ -48,31 +48,31 @@ kept s = record {
 }
 
 -- what is in force behind a command
-abbrev pub now_after : InForce → Said → InForce
-now_after now said = record {
-  format = option_or (sets_format said) now.format;
-  unit = option_or (sets_unit said) now.unit;
-  dark = unwrap_or (sets_dark said) now.dark;
-  mirror = unwrap_or (sets_mirror said) now.mirror;
-  angle = unwrap_or (sets_angle said) now.angle;
-  mode = unwrap_or (sets_mode said) now.mode;
-  quadrants = unwrap_or (sets_quadrants said) now.quadrants;
-  region = unwrap_or (sets_region said) now.region;
-  selected = option_or (sets_selected said) now.selected;
-  aperture = λ number. option_or (sets_aperture number now.unit said) (now.aperture number);
-  x = unwrap_or (sets_x now.format now.unit said) now.x;
-  y = unwrap_or (sets_y now.format now.unit said) now.y;
-  act = option_or (sets_act said) now.act;
-  repeat = unwrap_or (sets_repeat now.unit said) now.repeat;
+abbrev pub now_after : InForce → Command → InForce
+now_after now command = record {
+  format = option_or (sets_format command) now.format;
+  unit = option_or (sets_unit command) now.unit;
+  dark = unwrap_or (sets_dark command) now.dark;
+  mirror = unwrap_or (sets_mirror command) now.mirror;
+  angle = unwrap_or (sets_angle command) now.angle;
+  mode = unwrap_or (sets_mode command) now.mode;
+  multi_quadrant = unwrap_or (sets_multi_quadrant command) now.multi_quadrant;
+  region = unwrap_or (sets_region command) now.region;
+  selected = option_or (sets_selected command) now.selected;
+  aperture = λ number. option_or (sets_aperture number now.unit command) (now.aperture number);
+  x = unwrap_or (sets_x now.format now.unit command) now.x;
+  y = unwrap_or (sets_y now.format now.unit command) now.y;
+  act = option_or (sets_act command) now.act;
+  repeat = unwrap_or (sets_repeat now.unit command) now.repeat;
 }
 
 -- what is kept behind a command
-abbrev pub after : Held → Said → Held
-after h said = record {
-  now = now_after h.now said;
-  outline = outline_after h.now h.outline said;
-  block = block_after h.now h.outline h.block said;
-  painted = painted_after h.now h.outline h.block h.painted said;
+abbrev pub after : Held → Command → Held
+after h command = record {
+  now = now_after h.now command;
+  outline = outline_after h.now h.outline command;
+  block = block_after h.now h.outline h.block command;
+  painted = painted_after h.now h.outline h.block h.painted command;
 }
 
 -- what stops a reader: want of memory, or this fault
@@ -81,8 +81,8 @@ Stops fault stops.Memory = ⊤
 Stops fault (stops.Fault kind) = fault ≡ Some kind
 
 -- a step takes the command, or answers its fault
-abbrev pub Steps : {X : Type 0} → Held → Said → Result X Stop → Held → Type 0
-Steps h said result new = MatchResult result (λ _. (fault_of h said ≡ None) × (new ≡ after h said)) (Stops (fault_of h said))
+abbrev pub Steps : {X : Type 0} → Held → Command → Result X Stop → Held → Type 0
+Steps h command result new = MatchResult result (λ _. (fault_of h command ≡ None) × (new ≡ after h command)) (Stops (fault_of h command))
 
 -- counts of at most 1,000, and steps that fit
 pub record IsRepeat (r : Repeat) : Type 0 where
@@ -115,7 +115,7 @@ nothing = record {
     mirror = mirrors.Keep;
     angle = 0;
     mode = modes.Linear;
-    quadrants = false;
+    multi_quadrant = false;
     region = false;
     selected = None;
     aperture = λ number. None;
@@ -136,8 +136,8 @@ block_fault h =
     else excess_of (h.painted ++ copies h.now.repeat h.block)
 
 -- the fault of the way of an operation, which draws or doesn't
-abbrev pub way_fault : InForce → Bool → Operation → Option GerberKind
-way_fault now draws o =
+abbrev pub route_fault : InForce → Bool → Operation → Option GerberKind
+route_fault now draws o =
     if draws && is_open (route now o) then Some kinds.OpenArc
     else if is_far (place_after now o) || (draws && draw_leaves now o) then Some kinds.OutOfRange
     else None

@@ -4,15 +4,16 @@ ghost use Rattle.std.specs.List.{All};
 ghost use Rattle.board_base.specs.Places.{IsPlace, IsCoordinate};
 ghost use Rattle.plane_arcs.specs.Arcs.{chain_of};
 ghost use Rattle.plane_arcs.specs.Vectors.{IsArcPlace};
-ghost use Rattle.gerber_image.specs.Fits.{AreWritten};
+ghost use Rattle.gerber_words.specs.Fits.{AreWritten};
 ghost use Rattle.gerber_image.specs.Routes.{x_after, y_after, place_after, mode_after, is_curved as is_curved_of, turns_left as turns_left_of, arc_centre, arc_of, route};
 ghost use Rattle.gerber_image.specs.Checks.{has_long, is_draw, is_far, is_open, is_past, draw_leaves};
-ghost use Rattle.gerber_image.specs.State.{kept, IsReady, Stops, way_fault};
+ghost use Rattle.gerber_image.specs.State.{held_of, IsReady, Stops, route_fault};
 
-use crate::command::{Act, GerberKind, Mode, Operation};
 use crate::numbers::{coordinate, is_far, point, short_coordinate};
+use crate::refusal::GerberKind;
 use crate::state::{State, Stop};
 use board_base::Point;
+use gerber_words::{Act, Interpolation, Operation};
 use plane_arcs::{Arc, ArcError, arc_chain};
 use std::alloc::{AllocError, Global};
 
@@ -24,21 +25,21 @@ pub struct Reached {
 }
 
 // Whether an arc leads counterclockwise.
-fn turns_left(mode: Mode) -> bool
+fn turns_left(mode: Interpolation) -> bool
     ensures { result ≡ turns_left_of mode }
 {
     match mode {
-        Mode::Counterclockwise => true,
+        Interpolation::Counterclockwise => true,
         _ => false,
     }
 }
 
 /// Whether a mode leads along arcs.
-pub fn is_curved(mode: Mode) -> bool
+pub fn is_curved(mode: Interpolation) -> bool
     ensures { result ≡ is_curved_of mode }
 {
     match mode {
-        Mode::Linear => false,
+        Interpolation::Linear => false,
         _ => true,
     }
 }
@@ -66,9 +67,9 @@ fn pair(alloc: Global, a: Point, b: Point) -> Result<Vec<Point>, AllocError>
 impl State {
     // Where an operation leads.
     fn place(&self, o: Operation) -> Option<Point>
-        requires { IsReady (kept self.now) }
-        ensures { MatchOption result (is_far (place_after (kept self.now).now o) ≡ true)
-            (λ p. (is_far (place_after (kept self.now).now o) ≡ false) × (p ≡ place_after (kept self.now).now o) × IsPlace p) }
+        requires { IsReady (held_of self.now) }
+        ensures { MatchOption result (is_far (place_after (held_of self.now).now o) ≡ true)
+            (λ p. (is_far (place_after (held_of self.now).now o) ≡ false) × (p ≡ place_after (held_of self.now).now o) × IsPlace p) }
     {
         let x = coordinate(self.format, self.unit, o.x, self.here.x);
         let y = coordinate(self.format, self.unit, o.y, self.here.y);
@@ -78,10 +79,10 @@ impl State {
     // The centre of an operation's arc.
     #[tactic(auto, unfolding(crate::specs::Routes::arc_centre))]
     fn centre(&self, o: Operation) -> Point
-        requires ready { IsReady (kept self.now) }
+        requires ready { IsReady (held_of self.now) }
         requires written { AreWritten o }
         requires short { has_long self.now.format o ≡ false }
-        ensures value { result ≡ arc_centre (kept self.now).now o }
+        ensures value { result ≡ arc_centre (held_of self.now).now o }
         ensures size { IsArcPlace result }
     {
         Point {
@@ -98,10 +99,10 @@ impl State {
 
     // The end of an operation's arc.
     fn end_point(&self, o: Operation) -> Point
-        requires ready { IsReady (kept self.now) }
+        requires ready { IsReady (held_of self.now) }
         requires written { AreWritten o }
         requires short { has_long self.now.format o ≡ false }
-        ensures value { result ≡ place_after (kept self.now).now o }
+        ensures value { result ≡ place_after (held_of self.now).now o }
         ensures size { IsArcPlace result }
     {
         Point {
@@ -111,12 +112,12 @@ impl State {
     }
 
     // The arc of an operation.
-    fn arc(&self, o: Operation, mode: Mode) -> Arc
-        requires ready { IsReady (kept self.now) }
+    fn arc(&self, o: Operation, mode: Interpolation) -> Arc
+        requires ready { IsReady (held_of self.now) }
         requires written { AreWritten o }
         requires short { has_long self.now.format o ≡ false }
-        requires mode { mode ≡ mode_after (kept self.now).now o }
-        ensures value { result ≡ arc_of (kept self.now).now o }
+        requires mode { mode ≡ mode_after (held_of self.now).now o }
+        ensures value { result ≡ arc_of (held_of self.now).now o }
         ensures start { IsPlace result.start }
         ensures end { IsArcPlace result.end }
         ensures centre { IsArcPlace result.centre }
@@ -130,15 +131,15 @@ impl State {
     }
 
     // The chain of an operation's arc.
-    fn chain(&self, alloc: Global, o: Operation, mode: Mode) -> Result<Vec<Point>, Stop>
-        requires ready { IsReady (kept self.now) }
+    fn chain(&self, alloc: Global, o: Operation, mode: Interpolation) -> Result<Vec<Point>, Stop>
+        requires ready { IsReady (held_of self.now) }
         requires written { AreWritten o }
         requires short { has_long self.now.format o ≡ false }
-        requires mode { mode ≡ mode_after (kept self.now).now o }
+        requires mode { mode ≡ mode_after (held_of self.now).now o }
         ensures value { MatchResult result
-            (λ v. (chain_of (arc_of (kept self.now).now o) ≡ Ok v.items) × (is_far (arc_centre (kept self.now).now o) ≡ false))
-            (Stops (if is_open (chain_of (arc_of (kept self.now).now o)) then Some GerberKind.OpenArc
-            else if is_far (arc_centre (kept self.now).now o) || is_past (chain_of (arc_of (kept self.now).now o)) then Some GerberKind.OutOfRange
+            (λ v. (chain_of (arc_of (held_of self.now).now o) ≡ Ok v.items) × (is_far (arc_centre (held_of self.now).now o) ≡ false))
+            (Stops (if is_open (chain_of (arc_of (held_of self.now).now o)) then Some GerberKind.OpenArc
+            else if is_far (arc_centre (held_of self.now).now o) || is_past (chain_of (arc_of (held_of self.now).now o)) then Some GerberKind.OutOfRange
             else None)) }
         ensures places { IfOk result (λ v. All IsPlace v.items) }
     {
@@ -159,11 +160,11 @@ impl State {
 
     // Where a line leads, and its two points.
     fn line(&self, alloc: Global, o: Operation) -> Result<Reached, Stop>
-        requires ready { IsReady (kept self.now) }
-        requires straight { is_curved_of (mode_after (kept self.now).now o) ≡ false }
+        requires ready { IsReady (held_of self.now) }
+        requires straight { is_curved_of (mode_after (held_of self.now).now o) ≡ false }
         ensures value { MatchResult result
-            (λ r. (way_fault (kept self.now).now true o ≡ None) × (route (kept self.now).now o ≡ Ok r.points.items) × (r.place ≡ place_after (kept self.now).now o))
-            (Stops (way_fault (kept self.now).now true o)) }
+            (λ r. (route_fault (held_of self.now).now true o ≡ None) × (route (held_of self.now).now o ≡ Ok r.points.items) × (r.place ≡ place_after (held_of self.now).now o))
+            (Stops (route_fault (held_of self.now).now true o)) }
         ensures place { IfOk result (λ r. IsPlace r.place) }
         ensures places { IfOk result (λ r. All IsPlace r.points.items) }
     {
@@ -175,15 +176,15 @@ impl State {
     }
 
     // Where an arc leads, and the points of its chain.
-    fn curve(&self, alloc: Global, o: Operation, mode: Mode) -> Result<Reached, Stop>
-        requires ready { IsReady (kept self.now) }
+    fn curve(&self, alloc: Global, o: Operation, mode: Interpolation) -> Result<Reached, Stop>
+        requires ready { IsReady (held_of self.now) }
         requires written { AreWritten o }
         requires short { has_long self.now.format o ≡ false }
-        requires mode { mode ≡ mode_after (kept self.now).now o }
-        requires curved { is_curved_of (mode_after (kept self.now).now o) ≡ true }
+        requires mode { mode ≡ mode_after (held_of self.now).now o }
+        requires curved { is_curved_of (mode_after (held_of self.now).now o) ≡ true }
         ensures value { MatchResult result
-            (λ r. (way_fault (kept self.now).now true o ≡ None) × (route (kept self.now).now o ≡ Ok r.points.items) × (r.place ≡ place_after (kept self.now).now o))
-            (Stops (way_fault (kept self.now).now true o)) }
+            (λ r. (route_fault (held_of self.now).now true o ≡ None) × (route (held_of self.now).now o ≡ Ok r.points.items) × (r.place ≡ place_after (held_of self.now).now o))
+            (Stops (route_fault (held_of self.now).now true o)) }
         ensures place { IfOk result (λ r. IsPlace r.place) }
         ensures places { IfOk result (λ r. All IsPlace r.points.items) }
     {
@@ -199,12 +200,12 @@ impl State {
 
     // Where a draw leads, and along which points.
     fn draw(&self, alloc: Global, o: Operation) -> Result<Reached, Stop>
-        requires ready { IsReady (kept self.now) }
+        requires ready { IsReady (held_of self.now) }
         requires written { AreWritten o }
         requires short { has_long self.now.format o ≡ false }
         ensures value { MatchResult result
-            (λ r. (way_fault (kept self.now).now true o ≡ None) × (route (kept self.now).now o ≡ Ok r.points.items) × (r.place ≡ place_after (kept self.now).now o))
-            (Stops (way_fault (kept self.now).now true o)) }
+            (λ r. (route_fault (held_of self.now).now true o ≡ None) × (route (held_of self.now).now o ≡ Ok r.points.items) × (r.place ≡ place_after (held_of self.now).now o))
+            (Stops (route_fault (held_of self.now).now true o)) }
         ensures place { IfOk result (λ r. IsPlace r.place) }
         ensures places { IfOk result (λ r. All IsPlace r.points.items) }
     {
@@ -218,10 +219,10 @@ impl State {
 
     // Where a move or a flash leads.
     fn hop(&self, alloc: Global, o: Operation) -> Result<Reached, Stop>
-        requires { IsReady (kept self.now) }
+        requires { IsReady (held_of self.now) }
         ensures value { MatchResult result
-            (λ r. (way_fault (kept self.now).now false o ≡ None) × (r.points.items ≡ []) × (r.place ≡ place_after (kept self.now).now o))
-            (Stops (way_fault (kept self.now).now false o)) }
+            (λ r. (route_fault (held_of self.now).now false o ≡ None) × (r.points.items ≡ []) × (r.place ≡ place_after (held_of self.now).now o))
+            (Stops (route_fault (held_of self.now).now false o)) }
         ensures place { IfOk result (λ r. IsPlace r.place) }
     {
         match self.place(o) {
@@ -235,13 +236,13 @@ impl State {
 
     /// Where an act leads, and along which points, where it draws.
     pub fn reach(&self, alloc: Global, o: Operation, act: Act) -> Result<Reached, Stop>
-        requires ready { IsReady (kept self.now) }
+        requires ready { IsReady (held_of self.now) }
         requires written { AreWritten o }
         requires short { has_long self.now.format o ≡ false }
         ensures value { MatchResult result
-            (λ r. (way_fault (kept self.now).now (is_draw (Some act)) o ≡ None) × (r.place ≡ place_after (kept self.now).now o))
-            (Stops (way_fault (kept self.now).now (is_draw (Some act)) o)) }
-        ensures points { IfOk result (λ r. is_draw (Some act) ≡ true → route (kept self.now).now o ≡ Ok r.points.items) }
+            (λ r. (route_fault (held_of self.now).now (is_draw (Some act)) o ≡ None) × (r.place ≡ place_after (held_of self.now).now o))
+            (Stops (route_fault (held_of self.now).now (is_draw (Some act)) o)) }
+        ensures points { IfOk result (λ r. is_draw (Some act) ≡ true → route (held_of self.now).now o ≡ Ok r.points.items) }
         ensures place { IfOk result (λ r. IsPlace r.place) }
         ensures places { IfOk result (λ r. All IsPlace r.points.items) }
     {

@@ -4,14 +4,14 @@ ghost use Rattle.apertures.specs.Texts.{IsSize};
 ghost use Rattle.board_base.specs.Places.{IsPlace};
 ghost use Rattle.apertures.specs.Defined.{at};
 ghost use Rattle.gerber_image.specs.Checks.{is_far as is_far_of, is_long};
-ghost use Rattle.gerber_image.specs.Fits.{IsWritten};
+ghost use Rattle.gerber_words.specs.Fits.{IsWritten};
 ghost use Rattle.gerber_image.specs.Numbers.{unit_size as unit_size_of, nanometres as nanometres_of};
-ghost use Rattle.gerber_image.specs.InForce.{said_place, step_length as step_length_of};
+ghost use Rattle.gerber_image.specs.InForce.{coordinate_of, step_length as step_length_of};
 
-use crate::command::{Digits, Format};
 use apertures::{Unit, length_of};
 use board_base::Point;
 use fixed_num::round_div;
+use gerber_words::{Digits, Format};
 use plane_arcs::point_at;
 
 // The nanometres of a unit.
@@ -52,7 +52,7 @@ fn nanometres(decimals: u32, unit: Unit, value: i64) -> i128
 }
 
 // Where digits lead by a format and a unit, in nanometres: no further than 25,400,000,000,000 where the format has them.
-fn said(format: Format, unit: Unit, digits: Digits) -> i128
+fn written(format: Format, unit: Unit, digits: Digits) -> i128
     requires whole { format.whole ≤ 6 }
     requires decimals { format.decimals ≤ 6 }
     ensures value { result ≡ nanometres_of format.decimals unit digits.value }
@@ -70,11 +70,11 @@ pub fn coordinate(
     last: i64,
 ) -> i128
     requires { MatchOption format ⊤ (λ f. (f.whole ≤ 6) × (f.decimals ≤ 6)) }
-    ensures value { result ≡ unwrap_or (said_place format unit digits) last }
+    ensures value { result ≡ unwrap_or (coordinate_of format unit digits) last }
     ensures size { IfSome digits IsWritten → is_long format digits ≡ false → unsigned_abs last ≤ 500000000 → unsigned_abs result ≤ 25400000000000 }
 {
     match (format, unit, digits) {
-        (Some(format), Some(unit), Some(digits)) => said(format, unit, digits),
+        (Some(format), Some(unit), Some(digits)) => written(format, unit, digits),
         _ => last as i128,
     }
 }
@@ -99,7 +99,7 @@ pub fn short_coordinate(
     requires written { IfSome digits IsWritten }
     requires few { is_long format digits ≡ false }
     requires last { unsigned_abs last ≤ 500000000 }
-    ensures value { result ≡ unwrap_or (said_place format unit digits) last }
+    ensures value { result ≡ unwrap_or (coordinate_of format unit digits) last }
     ensures size { unsigned_abs result ≤ 25400000000000 }
 {
     short(coordinate(format, unit, digits, last))

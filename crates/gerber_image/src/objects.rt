@@ -3,7 +3,7 @@ ghost use Rattle.std.specs.Prelude.{◌≡◌, ◌∷◌, [], ◌++◌, ◌+◌,
 ghost use Rattle.gerber_image.specs.Image.{vertices_in};
 ghost use Rattle.gerber_image.specs.Objects.{capped, excess as excess_of};
 
-use crate::command::GerberKind;
+use crate::refusal::GerberKind;
 use shape_parts::Painted;
 use std::alloc::{AllocError, Global};
 use std::marker::Model;

@@ -5,19 +5,20 @@ ghost use Rattle.std.specs.Option.{option_or};
 ghost use Rattle.board_base.specs.Places.{IsPlace};
 ghost use Rattle.shape_parts.specs.Parts.{IsWidth};
 ghost use Rattle.apertures.specs.Placed.{placed};
-ghost use Rattle.gerber_image.specs.declared.command.Said.TheVariants.{Operate};
-ghost use Rattle.gerber_image.specs.Fits.{AreWritten};
+ghost use Rattle.gerber_words.specs.declared.commands.Command.TheVariants.{Operate};
+ghost use Rattle.gerber_words.specs.Fits.{AreWritten};
 ghost use Rattle.gerber_image.specs.Routes.{place_after, mode_after, route, strokes as strokes_of};
 ghost use Rattle.gerber_image.specs.Image.{figure_of, stroked, flashed, acted};
 ghost use Rattle.gerber_image.specs.Checks.{is_long as is_long_of, has_long as has_long_of, is_draw, is_flash, wants_aperture as wants_aperture_of, is_short_arc, lacks_stroke as lacks_stroke_of, opens_arc, leaves_range, first_fault_of, excess_of};
-ghost use Rattle.gerber_image.specs.State.{kept, listed, IsReady, Stops, Steps, flash_fault};
+ghost use Rattle.gerber_image.specs.State.{held_of, listed, IsReady, Stops, Steps, flash_fault};
 
-use crate::command::{Act, Digits, Format, GerberKind, Mode, Operation};
 use crate::draws::{Reached, is_curved};
 use crate::numbers::both;
+use crate::refusal::GerberKind;
 use crate::state::{State, Stop};
 use apertures::{Aperture, ApertureError, shape_at, stroke};
 use board_base::Point;
+use gerber_words::{Act, Digits, Format, Interpolation, Operation};
 use shape_parts::{Painted, Part, Shape};
 use std::alloc::{AllocError, Global};
 
@@ -25,7 +26,7 @@ use std::alloc::{AllocError, Global};
 #[derive(Drop)]
 pub struct Effect {
     pub place: Point,
-    pub mode: Mode,
+    pub mode: Interpolation,
     pub act: Act,
     pub object: Option<Painted>,
 }
@@ -110,7 +111,7 @@ fn strokes(alloc: Global, points: &[Point], d: i64) -> Result<Shape, AllocError>
 impl State {
     // Whether a draw lacks a stroke: outside regions with an aperture that makes none.
     fn lacks_stroke(&self) -> bool
-        ensures { result ≡ lacks_stroke_of (kept self.now).now }
+        ensures { result ≡ lacks_stroke_of (held_of self.now).now }
     {
         if self.region {
             return false;
@@ -123,12 +124,12 @@ impl State {
 
     // Whether an act isn't supported: an arc where arcs may not be longer than a quarter, or a draw without a stroke.
     fn is_left_out(&self, o: Operation, act: Act) -> bool
-        ensures { result ≡ (is_draw (Some act) && (is_short_arc (kept self.now).now o || lacks_stroke_of (kept self.now).now)) }
+        ensures { result ≡ (is_draw (Some act) && (is_short_arc (held_of self.now).now o || lacks_stroke_of (held_of self.now).now)) }
     {
         if !draws(act) {
             return false;
         }
-        if is_curved(o.mode.unwrap_or(self.mode)) && !self.quadrants {
+        if is_curved(o.mode.unwrap_or(self.mode)) && !self.multi_quadrant {
             return true;
         }
         self.lacks_stroke()
@@ -136,15 +137,15 @@ impl State {
 
     /// The first fault of an operation before its way is looked at, or its act.
     pub fn checked(&self, o: Operation) -> Result<Act, GerberKind>
-        requires { IsReady (kept self.now) }
+        requires { IsReady (held_of self.now) }
         ensures value { MatchResult result
             (λ act. (Some act ≡ option_or o.act self.now.act)
             × (has_long_of self.now.format o ≡ false)
-            × (first_fault_of (kept self.now).now self.now.block (Operate o)
-            ≡ (if opens_arc (kept self.now).now (Operate o) then Some GerberKind.OpenArc
-            else if leaves_range (kept self.now).now self.now.block (Operate o) then Some GerberKind.OutOfRange
+            × (first_fault_of (held_of self.now).now self.now.block (Operate o)
+            ≡ (if opens_arc (held_of self.now).now (Operate o) then Some GerberKind.OpenArc
+            else if leaves_range (held_of self.now).now self.now.block (Operate o) then Some GerberKind.OutOfRange
             else None)))
-            (λ kind. first_fault_of (kept self.now).now self.now.block (Operate o) ≡ Some kind) }
+            (λ kind. first_fault_of (held_of self.now).now self.now.block (Operate o) ≡ Some kind) }
         ensures region { IfOk result (λ act. self.now.region ≡ true → is_flash (Some act) ≡ false) }
     {
         let Some(act) = o.act.or(self.act) else {
@@ -224,14 +225,14 @@ impl State {
         reached: &Reached,
         act: Act,
     ) -> Result<Option<Painted>, Stop>
-        requires place { reached.now.place ≡ place_after (kept self.now).now o }
-        requires points { is_draw (Some act) ≡ true → route (kept self.now).now o ≡ Ok reached.now.points.items }
+        requires place { reached.now.place ≡ place_after (held_of self.now).now o }
+        requires points { is_draw (Some act) ≡ true → route (held_of self.now).now o ≡ Ok reached.now.points.items }
         requires places { All IsPlace reached.now.points.items }
         ensures { MatchResult result
-            (λ p. (listed p ≡ acted (Some act) (kept self.now).now o (figure_of self.now.selected (kept self.now).now.aperture))
-            × (flash_fault (Some act) (kept self.now).now o ≡ false))
+            (λ p. (listed p ≡ acted (Some act) (held_of self.now).now o (figure_of self.now.selected (held_of self.now).now.aperture))
+            × (flash_fault (Some act) (held_of self.now).now o ≡ false))
             (λ stop. (stop ≡ Stop.Memory)
-            ⊎ ((stop ≡ Stop.Fault GerberKind.OutOfRange) × (flash_fault (Some act) (kept self.now).now o ≡ true))) }
+            ⊎ ((stop ≡ Stop.Fault GerberKind.OutOfRange) × (flash_fault (Some act) (held_of self.now).now o ≡ true))) }
     {
         match (act, self.aperture()) {
             (Act::Draw, Some(aperture)) => self.stroke_along(alloc, &reached.points, aperture),
@@ -242,15 +243,15 @@ impl State {
 
     // What an operation does outside regions, or its first fault.
     fn effect(&self, alloc: Global, o: Operation) -> Result<Effect, Stop>
-        requires ready { IsReady (kept self.now) }
+        requires ready { IsReady (held_of self.now) }
         requires written { AreWritten o }
         ensures value { MatchResult result
-            (λ e. (first_fault_of (kept self.now).now self.now.block (Operate o) ≡ None)
-            × (e.place ≡ place_after (kept self.now).now o)
-            × (e.mode ≡ mode_after (kept self.now).now o)
+            (λ e. (first_fault_of (held_of self.now).now self.now.block (Operate o) ≡ None)
+            × (e.place ≡ place_after (held_of self.now).now o)
+            × (e.mode ≡ mode_after (held_of self.now).now o)
             × (Some e.act ≡ option_or o.act self.now.act)
-            × (listed e.object ≡ acted (option_or o.act self.now.act) (kept self.now).now o (figure_of self.now.selected (kept self.now).now.aperture)))
-            (Stops (first_fault_of (kept self.now).now self.now.block (Operate o))) }
+            × (listed e.object ≡ acted (option_or o.act self.now.act) (held_of self.now).now o (figure_of self.now.selected (held_of self.now).now.aperture)))
+            (Stops (first_fault_of (held_of self.now).now self.now.block (Operate o))) }
         ensures place { IfOk result (λ e. IsPlace e.place) }
     {
         let act = match self.checked(o) {
@@ -269,7 +270,7 @@ impl State {
 
     /// Adds an object to the open block, or to the image.
     pub fn add(&mut self, object: Option<Painted>) -> Result<(), Stop>
-        requires { IsReady (kept self.old) }
+        requires { IsReady (held_of self.old) }
         ensures others { self.new ≡ record self.old { block = self.new.block; painted = self.new.painted } }
         ensures ok { OnOk result
             ((self.new.block ≡ if is_none self.old.repeat then self.old.block else self.old.block ++ listed object)
@@ -295,10 +296,10 @@ impl State {
 
     // Carries out an operation outside regions, or answers its first fault.
     fn paint(&mut self, alloc: Global, o: Operation) -> Result<(), Stop>
-        requires ready { IsReady (kept self.old) }
+        requires ready { IsReady (held_of self.old) }
         requires written { AreWritten o }
         requires outside { self.old.region ≡ false }
-        ensures steps { Steps (kept self.old) (Operate o) result (kept self.new) }
+        ensures steps { Steps (held_of self.old) (Operate o) result (held_of self.new) }
         ensures place { OnOk result (IsPlace self.new.here) }
     {
         let effect = self.effect(alloc, o)?;
@@ -311,9 +312,9 @@ impl State {
 
     /// Carries out an operation, or answers its first fault.
     pub fn operate(&mut self, alloc: Global, operation: Operation) -> Result<(), Stop>
-        requires ready { IsReady (kept self.old) }
+        requires ready { IsReady (held_of self.old) }
         requires written { AreWritten operation }
-        ensures steps { Steps (kept self.old) (Operate operation) result (kept self.new) }
+        ensures steps { Steps (held_of self.old) (Operate operation) result (held_of self.new) }
         ensures place { OnOk result (IsPlace self.new.here) }
     {
         if self.region {

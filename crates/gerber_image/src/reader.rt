@@ -1,29 +1,25 @@
 // The image of a file.
-ghost use Rattle.std.specs.Prelude.{◌≡◌, ◌≤◌, IfOk, IfErr, IfSome, Ok, Err, Some, None, not};
-ghost use Rattle.std.specs.List.{filter};
-ghost use Rattle.gerber_lexer.specs.Cut.{is_break};
+ghost use Rattle.std.specs.Prelude.{◌≡◌, ◌≤◌, IfOk, IfErr, Ok, Err, Some, None};
 ghost use Rattle.gerber_image.specs.Checks.{is_end as is_end_of};
-ghost use Rattle.gerber_image.specs.Fits.{IsSaid};
-ghost use Rattle.gerber_image.specs.State.{Steps, IsReady, kept};
+ghost use Rattle.gerber_image.specs.State.{Steps, IsReady, held_of};
 ghost use Rattle.gerber_image.specs.Answer.{Refuses};
-ghost use Rattle.gerber_image.specs.Gerber.{said_of, without_breaks as without_breaks_of, StandsFor};
+ghost use Rattle.gerber_image.specs.Gerber.{StandsFor};
 ghost use Rattle.gerber_image.specs.Outcome.{AnswersOutcome, SomeOutcome};
 ghost use Rattle.gerber_image.specs.Laws.{OneOutcome, EachStaysSet, KeepsPace};
 
-use crate::command::{GerberError, GerberKind, Said};
-use crate::extended::extended;
+use crate::refusal::{GerberError, GerberKind};
 use crate::state::{State, Stop};
-use crate::words::word;
 use gerber_lexer::next_command;
+use gerber_words::{Command, read_command};
 use shape_parts::Painted;
-use std::alloc::{AllocError, Global};
+use std::alloc::Global;
 
 // Whether a command ends the file.
-fn is_end(said: &Said) -> bool
-    ensures { result ≡ is_end_of said.now }
+fn is_end(command: &Command) -> bool
+    ensures { result ≡ is_end_of command.now }
 {
-    match said {
-        Said::End => true,
+    match command {
+        Command::End => true,
         _ => false,
     }
 }
@@ -35,32 +31,6 @@ fn refusal(kind: GerberKind, at: usize) -> GerberError
     GerberError { kind, at }
 }
 
-// The bytes without line breaks.
-fn without_breaks(alloc: Global, text: &[u8]) -> Result<Vec<u8>, AllocError>
-    ensures { IfOk result (λ kept. kept.items ≡ without_breaks_of text.now) }
-{
-    let mut kept = Vec::new(alloc);
-    for b in text {
-        if *b != b'\n' && *b != b'\r' {
-            kept.push(*b)?;
-        }
-    }
-    Ok(kept)
-}
-
-// What the text of a command says.
-fn said(alloc: Global, text: &[u8], is_extended: bool) -> Result<Option<Said>, AllocError>
-    ensures value { IfOk result (λ said. said ≡ said_of text.now is_extended) }
-    ensures fits { IfOk result (λ said. IfSome said IsSaid) }
-{
-    if is_extended {
-        let kept = without_breaks(alloc, text)?;
-        extended(alloc, &kept)
-    } else {
-        Ok(word(text))
-    }
-}
-
 // Reads command after command.
 fn read_commands(alloc: Global, bytes: &[u8]) -> Result<Vec<Painted>, GerberError>
     ensures image { IfOk result (λ v. StandsFor bytes.now (Ok v.items)) }
@@ -70,32 +40,32 @@ fn read_commands(alloc: Global, bytes: &[u8]) -> Result<Vec<Painted>, GerberErro
     let mut at = 0;
     let mut inside = false;
     'commands: while at <= bytes.len() {
-        let place = match next_command(bytes, at, inside) {
-            Ok(Some(place)) => place,
+        let span = match next_command(bytes, at, inside) {
+            Ok(Some(span)) => span,
             Ok(None) => return Err(refusal(GerberKind::NoEnd, bytes.len())),
             Err(e) => return Err(refusal(GerberKind::Syntax, e.at)),
         };
-        let said = match said(alloc, &bytes[place.from..place.to], place.extended) {
-            Ok(Some(said)) => said,
-            Ok(None) => return Err(refusal(GerberKind::Syntax, place.from)),
-            Err(_) => return Err(refusal(GerberKind::Memory, place.from)),
+        let command = match read_command(alloc, &bytes[span.from..span.to], span.extended) {
+            Ok(Some(command)) => command,
+            Ok(None) => return Err(refusal(GerberKind::Syntax, span.from)),
+            Err(_) => return Err(refusal(GerberKind::Memory, span.from)),
         };
-        match state.step(alloc, &said) {
+        match state.step(alloc, &command) {
             Ok(()) => {}
-            Err(Stop::Fault(kind)) => return Err(refusal(kind, place.from)),
-            Err(Stop::Memory) => return Err(refusal(GerberKind::Memory, place.from)),
+            Err(Stop::Fault(kind)) => return Err(refusal(kind, span.from)),
+            Err(Stop::Memory) => return Err(refusal(GerberKind::Memory, span.from)),
         }
-        if is_end(&said) {
+        if is_end(&command) {
             return Ok(state.painted.into_all());
         }
-        at = place.next;
-        inside = place.inside;
+        at = span.next;
+        inside = span.inside;
     }
     unreachable!()
 }
 
-/// The image of a Gerber file: its objects in their order, dark or clear. Nothing is read behind the
-/// command that ends the file.
+/// The image of a Gerber file (Gerber Layer Format Specification of Ucamco, section 2.3 and chapter 4): its objects in
+/// their order, dark or clear. Nothing is read behind the command that ends the file.
 ///
 /// # Errors
 ///

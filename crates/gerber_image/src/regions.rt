@@ -2,20 +2,21 @@
 ghost use Rattle.std.specs.Prelude.{◌≡◌, ◌∷◌, [], ◌++◌, OnOk, IfOk, IfErr, true, Some, None, Ok, drop, is_none, if◌then◌else◌};
 ghost use Rattle.std.specs.List.{All, flat_map};
 ghost use Rattle.board_base.specs.Places.{IsPlace};
-ghost use Rattle.gerber_image.specs.declared.command.Said.{Said};
-ghost use Rattle.gerber_image.specs.declared.command.Said.TheVariants.{Operate};
-ghost use Rattle.gerber_image.specs.Fits.{AreWritten};
+ghost use Rattle.gerber_words.specs.declared.commands.Command.{Command};
+ghost use Rattle.gerber_words.specs.declared.commands.Command.TheVariants.{Operate};
+ghost use Rattle.gerber_words.specs.Fits.{AreWritten};
 ghost use Rattle.gerber_image.specs.Routes.{place_after, route};
 ghost use Rattle.gerber_image.specs.Regions.{area_of};
 ghost use Rattle.gerber_image.specs.Image.{traced};
 ghost use Rattle.gerber_image.specs.Checks.{excess_of, is_draw};
-ghost use Rattle.gerber_image.specs.State.{kept, IsReady, Stops, Steps};
+ghost use Rattle.gerber_image.specs.State.{held_of, IsReady, Stops, Steps};
 
-use crate::command::{Act, GerberKind, Operation};
 use crate::contour::{Contour, corners_of, region};
 use crate::draws::Reached;
+use crate::refusal::GerberKind;
 use crate::state::{State, Stop};
 use board_base::Point;
+use gerber_words::{Act, Operation};
 use shape_parts::Painted;
 use std::alloc::Global;
 use std::mem;
@@ -33,8 +34,8 @@ fn behind_first(points: &[Point]) -> &[Point]
 impl State {
     /// G36
     pub fn begin_region(&mut self, alloc: Global) -> Result<(), Stop>
-        requires { IsReady (kept self.old) }
-        ensures { Steps (kept self.old) Said.BeginRegion result (kept self.new) }
+        requires { IsReady (held_of self.old) }
+        ensures { Steps (held_of self.old) Command.BeginRegion result (held_of self.new) }
     {
         if self.region {
             return Err(Stop::Fault(GerberKind::OpenRegion));
@@ -76,8 +77,8 @@ impl State {
 
     /// G37
     pub fn end_region(&mut self, alloc: Global) -> Result<(), Stop>
-        requires { IsReady (kept self.old) }
-        ensures { Steps (kept self.old) Said.EndRegion result (kept self.new) }
+        requires { IsReady (held_of self.old) }
+        ensures { Steps (held_of self.old) Command.EndRegion result (held_of self.new) }
     {
         if !self.region {
             return Err(Stop::Fault(GerberKind::Syntax));
@@ -116,12 +117,12 @@ impl State {
 
     // Changes the contours as an act does that is no flash.
     fn lead(&mut self, alloc: Global, o: Operation, reached: &Reached, act: Act) -> Result<(), Stop>
-        requires place { reached.now.place ≡ place_after (kept self.old).now o }
-        requires points { is_draw (Some act) ≡ true → route (kept self.old).now o ≡ Ok reached.now.points.items }
+        requires place { reached.now.place ≡ place_after (held_of self.old).now o }
+        requires points { is_draw (Some act) ≡ true → route (held_of self.old).now o ≡ Ok reached.now.points.items }
         requires inside { IsPlace reached.now.place }
         requires places { All IsPlace reached.now.points.items }
         ensures others { self.new ≡ record self.old { contours = self.new.contours; contour = self.new.contour } }
-        ensures outline { OnOk result ((kept self.new).outline ≡ traced (Some act) (kept self.old).now (kept self.old).outline o) }
+        ensures outline { OnOk result ((held_of self.new).outline ≡ traced (Some act) (held_of self.old).now (held_of self.old).outline o) }
         ensures memory { IfErr result (λ stop. stop ≡ Stop.Memory) }
     {
         match act {
@@ -133,10 +134,10 @@ impl State {
 
     /// Carries out an operation in a region, or answers its first fault.
     pub fn trace(&mut self, alloc: Global, o: Operation) -> Result<(), Stop>
-        requires ready { IsReady (kept self.old) }
+        requires ready { IsReady (held_of self.old) }
         requires written { AreWritten o }
         requires inside { self.old.region ≡ true }
-        ensures steps { Steps (kept self.old) (Operate o) result (kept self.new) }
+        ensures steps { Steps (held_of self.old) (Operate o) result (held_of self.new) }
         ensures place { OnOk result (IsPlace self.new.here) }
     {
         let act = match self.checked(o) {

@@ -7,14 +7,23 @@ ghost use Rattle.gerber_image.specs.Checks.{piece_leaves, is_outside, excess_of}
 ghost use Rattle.gerber_image.specs.State.{IsRepeat};
 ghost use Rattle.gerber_image.specs.Copies.{AreInside, shift_of};
 
-use crate::command::{GerberKind, Repeat};
 use crate::numbers::either;
 use crate::objects::Objects;
+use crate::refusal::GerberKind;
 use board_base::Point;
 use plane_arcs::point_at;
 use poly_area::Motion;
 use shape_parts::{Painted, Shape};
 use std::alloc::{AllocError, Global};
+
+/// Counts and steps of a repeat. The steps are in nanometres.
+#[derive(Clone, Copy, Debug, PartialEq, Eq)]
+pub struct Repeat {
+    pub columns: u32,
+    pub rows: u32,
+    pub dx: u128,
+    pub dy: u128,
+}
 
 /// A shift to the east and the north, in nanometres.
 #[derive(Clone, Copy)]

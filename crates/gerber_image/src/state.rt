@@ -6,16 +6,17 @@ ghost use Rattle.apertures.specs.Texts.{IsSize};
 ghost use Rattle.gerber_image.specs.InForce.{opened as opened_of, defined_under};
 ghost use Rattle.gerber_image.specs.Image.{figure_of, copies};
 ghost use Rattle.gerber_image.specs.Checks.{same_format, same_unit, is_outside, fault_of, excess_of, Held};
-ghost use Rattle.gerber_image.specs.Fits.{IsSaid};
-ghost use Rattle.gerber_image.specs.State.{kept, nothing, listed, IsReady, IsRepeat, block_fault, Stops, Steps};
+ghost use Rattle.gerber_words.specs.Fits.{IsCommand};
+ghost use Rattle.gerber_image.specs.State.{held_of, nothing, listed, IsReady, IsRepeat, block_fault, Stops, Steps};
 
-use crate::command::{Act, Format, GerberKind, Mode, Repeat, Said, Template};
 use crate::contour::Contour;
 use crate::numbers::{both, step_length};
 use crate::objects::Objects;
-use crate::repeat::{copies_excess, copies_leave, paint_copies};
+use crate::refusal::GerberKind;
+use crate::repeat::{Repeat, copies_excess, copies_leave, paint_copies};
 use apertures::{Aperture, ApertureError, Mirror, Unit, define};
 use board_base::Point;
+use gerber_words::{Act, ApertureText, Command, Format, Interpolation};
 use std::alloc::{AllocError, AllocFailed, Global};
 use std::collections::BTreeMap;
 
@@ -27,8 +28,8 @@ pub struct State {
     pub dark: bool,
     pub mirror: Mirror,
     pub angle: u32,
-    pub mode: Mode,
-    pub quadrants: bool,
+    pub mode: Interpolation,
+    pub multi_quadrant: bool,
     pub region: bool,
     pub selected: Option<u32>,
     pub apertures: BTreeMap<u32, Aperture, Global>,
@@ -127,8 +128,8 @@ fn unit_or_mm(unit: Option<Unit>) -> Unit
 impl State {
     /// What is kept at first.
     pub fn new(alloc: Global) -> State
-        ensures value { kept result ≡ nothing }
-        ensures ready { IsReady (kept result) }
+        ensures value { held_of result ≡ nothing }
+        ensures ready { IsReady (held_of result) }
     {
         State {
             format: None,
@@ -136,8 +137,8 @@ impl State {
             dark: true,
             mirror: Mirror::Keep,
             angle: 0,
-            mode: Mode::Linear,
-            quadrants: false,
+            mode: Interpolation::Linear,
+            multi_quadrant: false,
             region: false,
             selected: None,
             apertures: BTreeMap::new(alloc),
@@ -153,8 +154,8 @@ impl State {
 
     // FS
     fn set_format(&mut self, format: Format) -> Result<(), Stop>
-        requires { IsReady (kept self.old) }
-        ensures { Steps (kept self.old) (Said.Format format) result (kept self.new) }
+        requires { IsReady (held_of self.old) }
+        ensures { Steps (held_of self.old) (Command.Format format) result (held_of self.new) }
     {
         if !is_same_format(format, self.format) {
             return Err(Stop::Fault(GerberKind::Syntax));
@@ -168,8 +169,8 @@ impl State {
 
     // MO, G70 and G71
     fn set_unit(&mut self, unit: Unit, in_block: bool) -> Result<(), Stop>
-        requires { IsReady (kept self.old) }
-        ensures { Steps (kept self.old) (Said.Unit unit in_block) result (kept self.new) }
+        requires { IsReady (held_of self.old) }
+        ensures { Steps (held_of self.old) (Command.Unit unit in_block) result (held_of self.new) }
     {
         if !is_same_unit(unit, self.unit) {
             return Err(Stop::Fault(GerberKind::Syntax));
@@ -183,8 +184,8 @@ impl State {
 
     // LP
     fn set_dark(&mut self, dark: bool) -> Result<(), Stop>
-        requires { IsReady (kept self.old) }
-        ensures { Steps (kept self.old) (Said.Polarity dark) result (kept self.new) }
+        requires { IsReady (held_of self.old) }
+        ensures { Steps (held_of self.old) (Command.Polarity dark) result (held_of self.new) }
     {
         if self.region {
             return Err(Stop::Fault(GerberKind::OpenRegion));
@@ -195,8 +196,8 @@ impl State {
 
     // LM
     fn set_mirror(&mut self, mirror: Mirror) -> Result<(), Stop>
-        requires { IsReady (kept self.old) }
-        ensures { Steps (kept self.old) (Said.Mirror mirror) result (kept self.new) }
+        requires { IsReady (held_of self.old) }
+        ensures { Steps (held_of self.old) (Command.Mirror mirror) result (held_of self.new) }
     {
         if self.region {
             return Err(Stop::Fault(GerberKind::OpenRegion));
@@ -207,8 +208,8 @@ impl State {
 
     // LR
     fn set_angle(&mut self, angle: u32) -> Result<(), Stop>
-        requires { IsReady (kept self.old) }
-        ensures { Steps (kept self.old) (Said.Rotation angle) result (kept self.new) }
+        requires { IsReady (held_of self.old) }
+        ensures { Steps (held_of self.old) (Command.Rotation angle) result (held_of self.new) }
     {
         if self.region {
             return Err(Stop::Fault(GerberKind::OpenRegion));
@@ -218,27 +219,27 @@ impl State {
     }
 
     // G01, G02 and G03
-    fn set_mode(&mut self, mode: Mode) -> Result<(), Stop>
-        requires { IsReady (kept self.old) }
-        ensures { Steps (kept self.old) (Said.Mode mode) result (kept self.new) }
+    fn set_mode(&mut self, mode: Interpolation) -> Result<(), Stop>
+        requires { IsReady (held_of self.old) }
+        ensures { Steps (held_of self.old) (Command.Interpolation mode) result (held_of self.new) }
     {
         self.mode = mode;
         Ok(())
     }
 
     // G74 and G75
-    fn set_quadrants(&mut self, all: bool) -> Result<(), Stop>
-        requires { IsReady (kept self.old) }
-        ensures { Steps (kept self.old) (Said.Quadrants all) result (kept self.new) }
+    fn set_multi_quadrant(&mut self, on: bool) -> Result<(), Stop>
+        requires { IsReady (held_of self.old) }
+        ensures { Steps (held_of self.old) (Command.MultiQuadrant on) result (held_of self.new) }
     {
-        self.quadrants = all;
+        self.multi_quadrant = on;
         Ok(())
     }
 
     // A setting that holds without it.
-    fn restate(&self) -> Result<(), Stop>
-        requires { IsReady (kept self.now) }
-        ensures { Steps (kept self.now) Said.Restated result (kept self.now) }
+    fn deprecated_setting(&self) -> Result<(), Stop>
+        requires { IsReady (held_of self.now) }
+        ensures { Steps (held_of self.now) Command.DeprecatedSetting result (held_of self.now) }
     {
         if self.region {
             return Err(Stop::Fault(GerberKind::OpenRegion));
@@ -248,8 +249,8 @@ impl State {
 
     // The aperture with a number.
     fn look_up(&self, number: Option<u32>) -> Option<&Aperture>
-        ensures { MatchOption result (figure_of number (kept self.now).now.aperture ≡ None)
-            (λ a. figure_of number (kept self.now).now.aperture ≡ Some a.now) }
+        ensures { MatchOption result (figure_of number (held_of self.now).now.aperture ≡ None)
+            (λ a. figure_of number (held_of self.now).now.aperture ≡ Some a.now) }
     {
         match number {
             Some(number) => self.apertures.get(&number),
@@ -259,16 +260,16 @@ impl State {
 
     /// The selected aperture.
     pub fn aperture(&self) -> Option<&Aperture>
-        ensures { MatchOption result (figure_of self.now.selected (kept self.now).now.aperture ≡ None)
-            (λ a. figure_of self.now.selected (kept self.now).now.aperture ≡ Some a.now) }
+        ensures { MatchOption result (figure_of self.now.selected (held_of self.now).now.aperture ≡ None)
+            (λ a. figure_of self.now.selected (held_of self.now).now.aperture ≡ Some a.now) }
     {
         self.look_up(self.selected)
     }
 
     // A selection of an aperture.
     fn select(&mut self, number: Option<u32>) -> Result<(), Stop>
-        requires { IsReady (kept self.old) }
-        ensures { Steps (kept self.old) (Said.Select number) result (kept self.new) }
+        requires { IsReady (held_of self.old) }
+        ensures { Steps (held_of self.old) (Command.Select number) result (held_of self.new) }
     {
         if self.look_up(number).is_none() {
             return Err(Stop::Fault(GerberKind::NoAperture));
@@ -278,11 +279,11 @@ impl State {
     }
 
     // The aperture of a definition, or its first fault.
-    fn defined(&self, alloc: Global, number: u32, template: &Template) -> Result<Aperture, Stop>
-        requires { IsReady (kept self.now) }
+    fn defined(&self, alloc: Global, number: u32, template: &ApertureText) -> Result<Aperture, Stop>
+        requires { IsReady (held_of self.now) }
         ensures { MatchResult result
-            (λ a. (fault_of (kept self.now) (Said.Define number template.now) ≡ None) × (defined_under self.now.unit template.now ≡ Ok a))
-            (Stops (fault_of (kept self.now) (Said.Define number template.now))) }
+            (λ a. (fault_of (held_of self.now) (Command.Define number template.now) ≡ None) × (defined_under self.now.unit template.now ≡ Ok a))
+            (Stops (fault_of (held_of self.now) (Command.Define number template.now))) }
     {
         let made = define(alloc, template.text(), unit_or_mm(self.unit));
         match (made, self.unit, self.region) {
@@ -300,9 +301,9 @@ impl State {
     }
 
     // A definition of an aperture.
-    fn define(&mut self, alloc: Global, number: u32, template: &Template) -> Result<(), Stop>
-        requires { IsReady (kept self.old) }
-        ensures { Steps (kept self.old) (Said.Define number template.now) result (kept self.new) }
+    fn define(&mut self, alloc: Global, number: u32, template: &ApertureText) -> Result<(), Stop>
+        requires { IsReady (held_of self.old) }
+        ensures { Steps (held_of self.old) (Command.Define number template.now) result (held_of self.new) }
     {
         let aperture = self.defined(alloc, number, template)?;
         let _ = self.apertures.insert(number, aperture)?;
@@ -311,13 +312,13 @@ impl State {
 
     // Paints the copies of the open block, where one is open.
     fn paint_block(&mut self, alloc: Global) -> Result<(), Stop>
-        requires { IsReady (kept self.old) }
+        requires { IsReady (held_of self.old) }
         ensures others { self.new ≡ record self.old { painted = self.new.painted } }
         ensures ok { OnOk result
             ((self.new.painted ≡ self.old.painted ++ copies self.old.repeat self.old.block)
             × (list_any is_outside (copies self.old.repeat self.old.block) ≡ false)
             × (excess_of self.new.painted ≡ None)) }
-        ensures refused { IfErr result (Stops (block_fault (kept self.old))) }
+        ensures refused { IfErr result (Stops (block_fault (held_of self.old))) }
     {
         let Some(repeat) = self.repeat else {
             return Ok(());
@@ -334,8 +335,8 @@ impl State {
 
     // SR alone.
     fn close(&mut self, alloc: Global) -> Result<(), Stop>
-        requires { IsReady (kept self.old) }
-        ensures { Steps (kept self.old) Said.Close result (kept self.new) }
+        requires { IsReady (held_of self.old) }
+        ensures { Steps (held_of self.old) Command.CloseRepeat result (held_of self.new) }
     {
         if self.repeat.is_none() {
             return Err(Stop::Fault(GerberKind::Syntax));
@@ -358,9 +359,9 @@ impl State {
         dx: u128,
         dy: u128,
     ) -> Result<(), Stop>
-        requires ready { IsReady (kept self.old) }
-        requires said { IsSaid (Said.Open columns rows dx dy) }
-        ensures { Steps (kept self.old) (Said.Open columns rows dx dy) result (kept self.new) }
+        requires ready { IsReady (held_of self.old) }
+        requires command { IsCommand (Command.OpenRepeat columns rows dx dy) }
+        ensures { Steps (held_of self.old) (Command.OpenRepeat columns rows dx dy) result (held_of self.new) }
     {
         let Some(unit) = self.unit else {
             return Err(Stop::Fault(GerberKind::NoUnit));
@@ -376,8 +377,8 @@ impl State {
 
     // M02
     fn end(&self) -> Result<(), Stop>
-        requires { IsReady (kept self.now) }
-        ensures { Steps (kept self.now) Said.End result (kept self.now) }
+        requires { IsReady (held_of self.now) }
+        ensures { Steps (held_of self.now) Command.End result (held_of self.now) }
     {
         if self.region {
             return Err(Stop::Fault(GerberKind::OpenRegion));
@@ -389,37 +390,37 @@ impl State {
     }
 
     /// Takes a command, or answers its first fault.
-    pub fn step(&mut self, alloc: Global, said: &Said) -> Result<(), Stop>
-        requires ready { IsReady (kept self.old) }
-        requires said { IsSaid said.now }
-        ensures steps { Steps (kept self.old) said.now result (kept self.new) }
-        ensures ready { OnOk result (IsReady (kept self.new)) }
+    pub fn step(&mut self, alloc: Global, command: &Command) -> Result<(), Stop>
+        requires ready { IsReady (held_of self.old) }
+        requires command { IsCommand command.now }
+        ensures steps { Steps (held_of self.old) command.now result (held_of self.new) }
+        ensures ready { OnOk result (IsReady (held_of self.new)) }
     {
-        match said {
-            Said::Format { format } => self.set_format(*format),
-            Said::Unit { unit, in_block } => self.set_unit(*unit, *in_block),
-            Said::Polarity { dark } => self.set_dark(*dark),
-            Said::Mirror { mirror } => self.set_mirror(*mirror),
-            Said::Rotation { angle } => self.set_angle(*angle),
-            Said::Mode { mode } => self.set_mode(*mode),
-            Said::Quadrants { all } => self.set_quadrants(*all),
-            Said::BeginRegion => self.begin_region(alloc),
-            Said::EndRegion => self.end_region(alloc),
-            Said::Define { number, template } => self.define(alloc, *number, template),
-            Said::Select { number } => self.select(*number),
-            Said::Open {
+        match command {
+            Command::Format { format } => self.set_format(*format),
+            Command::Unit { unit, in_block } => self.set_unit(*unit, *in_block),
+            Command::Polarity { dark } => self.set_dark(*dark),
+            Command::Mirror { mirror } => self.set_mirror(*mirror),
+            Command::Rotation { angle } => self.set_angle(*angle),
+            Command::Interpolation { mode } => self.set_mode(*mode),
+            Command::MultiQuadrant { on } => self.set_multi_quadrant(*on),
+            Command::BeginRegion => self.begin_region(alloc),
+            Command::EndRegion => self.end_region(alloc),
+            Command::Define { number, template } => self.define(alloc, *number, template),
+            Command::Select { number } => self.select(*number),
+            Command::OpenRepeat {
                 columns,
                 rows,
                 dx,
                 dy,
             } => self.open(alloc, *columns, *rows, *dx, *dy),
-            Said::Close => self.close(alloc),
-            Said::Operate { operation } => self.operate(alloc, *operation),
-            Said::Ignored => Ok(()),
-            Said::Restated => self.restate(),
-            Said::NotBuiltYet => Err(Stop::Fault(GerberKind::NotBuiltYet)),
-            Said::Unsupported => Err(Stop::Fault(GerberKind::Unsupported)),
-            Said::End => self.end(),
+            Command::CloseRepeat => self.close(alloc),
+            Command::Operate { operation } => self.operate(alloc, *operation),
+            Command::Ignored => Ok(()),
+            Command::DeprecatedSetting => self.deprecated_setting(),
+            Command::NotBuiltYet => Err(Stop::Fault(GerberKind::NotBuiltYet)),
+            Command::Unsupported => Err(Stop::Fault(GerberKind::Unsupported)),
+            Command::End => self.end(),
         }
     }
 }

@@ -4,12 +4,14 @@ ghost use Rattle.std.specs.List.{position};
 ghost use Rattle.gerber_lexer.specs.Tiles.{CommandsTile, CommandsWithin};
 ghost use Rattle.gerber_lexer.specs.Cut.{is_break, way_to, breaks_before, breaks_behind, trimmed, ends_in_star, is_macro, first_byte, block_rest, way_to_end, block_command, word_command, command_in, outside_command, percent, IsWithin, found_at, next_of};
 
-/// Where a command stands. Places are offsets of bytes, from 0.
+use text_cut::position_of;
+
+/// Where a command stands. Offsets are of bytes, from 0.
 #[derive(Clone, Copy, Debug, PartialEq, Eq)]
-pub struct Command {
-    /// The place of its first byte.
+pub struct Span {
+    /// The offset of its first byte.
     pub from: usize,
-    /// The place of the star that ends it.
+    /// The offset of the star that ends it.
     pub to: usize,
     /// Whether it stands in a block of percent signs.
     pub extended: bool,
@@ -22,7 +24,7 @@ pub struct Command {
 /// A word command without its star, or a block without its percent sign or its last star.
 #[derive(Clone, Copy, Debug, PartialEq, Eq)]
 pub struct LexError {
-    /// The place of the word command's first byte, or of the percent sign that opens the block.
+    /// The offset of the word command's first byte, or of the percent sign that opens the block.
     pub at: usize,
 }
 
@@ -33,26 +35,19 @@ fn is_break(byte: u8) -> bool
     byte == b'\n' || byte == b'\r'
 }
 
-// The place of the first such byte.
-fn position_of(byte: u8, bytes: &[u8]) -> Option<usize>
-    ensures { result ≡ position (λ b. b == byte) bytes.now }
-{
-    bytes.iter().position(|b| *b == byte)
-}
-
 // How far it is to the first such byte, or to the end.
 #[tactic(auto, unfolding(crate::specs::Cut::way_to))]
 fn way_to(byte: u8, bytes: &[u8]) -> usize
     ensures value { result ≡ way_to byte bytes.now }
     ensures within { result ≤ length bytes.now }
 {
-    match position_of(byte, bytes) {
+    match position_of(bytes, byte) {
         Some(i) => i,
         None => bytes.len(),
     }
 }
 
-// The place of the first byte that is no line break.
+// The offset of the first byte that is no line break.
 fn first_other(bytes: &[u8]) -> Option<usize>
     ensures { result ≡ position (λ b. not (is_break b)) bytes.now }
 {
@@ -71,7 +66,7 @@ fn breaks_before(bytes: &[u8]) -> usize
     }
 }
 
-// The place of the last byte that is no line break, counted from the end.
+// The offset of the last byte that is no line break, counted from the end.
 fn last_other(bytes: &[u8]) -> Option<usize>
     ensures { result ≡ position (λ b. not (is_break b)) (reverse bytes.now) }
 {
@@ -154,7 +149,7 @@ fn way_to_end(block: &[u8]) -> usize
 }
 
 // The command at the front of the rest of a block.
-fn command_in(at: usize, block: &[u8], way: usize) -> Command
+fn command_in(at: usize, block: &[u8], way: usize) -> Span
     requires at { at + way < 2 ^ 63 }
     requires within { length block.now ≤ way }
     requires star { ends_in_star block.now ≡ true }
@@ -163,7 +158,7 @@ fn command_in(at: usize, block: &[u8], way: usize) -> Command
 {
     let to = way_to_end(block);
     let inside = to + 1 < block.len();
-    Command {
+    Span {
         from: at + breaks_before(block),
         to: at + to,
         extended: true,
@@ -173,7 +168,7 @@ fn command_in(at: usize, block: &[u8], way: usize) -> Command
 }
 
 // The command of a block whose search begins here, before these bytes.
-fn block_command(at: usize, rest: &[u8]) -> Option<Command>
+fn block_command(at: usize, rest: &[u8]) -> Option<Span>
     requires { at + length rest.now < 2 ^ 63 }
     ensures value { result ≡ block_command at rest.now }
     ensures bounds { IfSome result (IsWithin at (at + length rest.now)) }
@@ -190,7 +185,7 @@ fn block_command(at: usize, rest: &[u8]) -> Option<Command>
 }
 
 // The word command whose first byte is here.
-fn word_command(at: usize, rest: &[u8]) -> Option<Command>
+fn word_command(at: usize, rest: &[u8]) -> Option<Span>
     requires { at + length rest.now < 2 ^ 63 }
     ensures value { result ≡ word_command at rest.now }
     ensures bounds { IfSome result (IsWithin at (at + length rest.now)) }
@@ -199,7 +194,7 @@ fn word_command(at: usize, rest: &[u8]) -> Option<Command>
     if to == rest.len() {
         return None;
     }
-    Some(Command {
+    Some(Span {
         from: at,
         to: at + to,
         extended: false,
@@ -209,7 +204,7 @@ fn word_command(at: usize, rest: &[u8]) -> Option<Command>
 }
 
 // A command, or its fault at the byte where it begins.
-fn found_at(at: usize, command: Option<Command>) -> Result<Option<Command>, LexError>
+fn found_at(at: usize, command: Option<Span>) -> Result<Option<Span>, LexError>
     ensures value { MatchResult result (λ found. found_at at command ≡ Ok found) (λ e. found_at at command ≡ Err e.at) }
     ensures same { IfOk result (λ found. found ≡ command) }
 {
@@ -220,7 +215,7 @@ fn found_at(at: usize, command: Option<Command>) -> Result<Option<Command>, LexE
 }
 
 // A block, a word command or the end.
-fn outside_command(at: usize, rest: &[u8]) -> Result<Option<Command>, LexError>
+fn outside_command(at: usize, rest: &[u8]) -> Result<Option<Span>, LexError>
     requires { at + length rest.now < 2 ^ 63 }
     ensures bounds { IfOk result (λ found. IfSome found (IsWithin at (at + length rest.now))) }
     ensures value { MatchResult result (λ found. outside_command at rest.now ≡ Ok found) (λ e. outside_command at rest.now ≡ Err e.at) }
@@ -232,13 +227,13 @@ fn outside_command(at: usize, rest: &[u8]) -> Result<Option<Command>, LexError>
     }
 }
 
-/// The next command from a place on, or None where only line breaks are left. `inside` tells that the
-/// place lies in a block that has a further command; a command tells it, and its `next` is the place.
+/// The next command from an offset on (Gerber Layer Format Specification of Ucamco, chapter 3), or None where only line breaks are left. `inside` tells that the
+/// offset lies in a block that has a further command; a command tells it, and its `next` is the offset.
 ///
 /// # Errors
 ///
 /// A command or a block that isn't closed, and a block that doesn't end in a star.
-pub fn next_command(bytes: &[u8], at: usize, inside: bool) -> Result<Option<Command>, LexError>
+pub fn next_command(bytes: &[u8], at: usize, inside: bool) -> Result<Option<Span>, LexError>
     requires { at ≤ length bytes.now }
     ensures bounds { IfOk result (λ found. IfSome found (IsWithin at (length bytes.now))) }
     ensures value { MatchResult result (λ found. next_of bytes.now at inside ≡ Ok found) (λ e. next_of bytes.now at inside ≡ Err e.at) }

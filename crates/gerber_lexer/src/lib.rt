@@ -4,7 +4,5 @@
 #![tactic(auto)]
 
 mod lexer;
-#[cfg(test)]
-mod tests;
 
-pub use lexer::{Command, LexError, commands_tile, commands_within, next_command};
+pub use lexer::{LexError, Span, commands_tile, commands_within, next_command};

@@ -1,13 +1,13 @@
 use Rattle.std.proofs.Common.{◌-◌, ◌+◌, length, ◌≤◌}
-use Rattle.gerber_image.specs.State.{kept, IsReady}
+use Rattle.gerber_image.specs.State.{held_of, IsReady}
 use Rattle.gerber_image.specs.Reached.{IsReached}
 use Rattle.gerber_image.proofs.reader.read_commands.Given as goal
 
 abbrev pub invariant-commands : goal.invariant-commands
 invariant-commands l = record {
-  reached : IsReached l.bytes l.at l.inside (kept l.state);
+  reached : IsReached l.bytes l.at l.inside (held_of l.state);
   within : l.at ≤ length l.bytes;
-  ready : IsReady (kept l.state);
+  ready : IsReady (held_of l.state);
 }
 
 abbrev pub decreases-commands : goal.decreases-commands

@@ -1,0 +1,31 @@
+-- What definitions of apertures and macros say.
+use Rattle.std.specs.Prelude.{ℕ, List, [], ◌∷◌, take, drop, codes, Option, Some, None, if◌then◌else◌, ◌&&◌, ◌==◌, nat_le}
+use Rattle.board_base.specs.OptionBinds.{◌>>=◌}
+use Rattle.text_cut.specs.Split.{after}
+use Rattle.gerber_words.specs.Numerals.{number_of}
+use Rattle.text_cut.specs.Digits.{digits_before}
+use Rattle.gerber_words.specs.Words.{greatest}
+use Rattle.gerber_words.specs.declared.commands.Command.{Command}
+use Rattle.gerber_words.specs.declared.commands.Command.TheVariants as commands
+
+-- an aperture's number and its template
+abbrev pub defined_in : ℕ → List ℕ → Option Command
+defined_in number template = if nat_le 10 number && nat_le number greatest then Some (commands.Define number template) else None
+
+-- ADD, a number and a template
+unfoldable pub definition_of : List ℕ → Option Command
+definition_of text = do
+  rest ← after (codes "ADD") text
+  number ← number_of (take (digits_before rest) rest)
+  defined_in number (drop (digits_before rest) rest)
+
+-- a macro has a name, which goes up to the first star
+abbrev pub macro_in : List ℕ → Option Command
+macro_in [] = None
+macro_in (b ∷ rest) = if b == 42 then None else Some commands.NotBuiltYet
+
+-- AM
+unfoldable pub macro_of : List ℕ → Option Command
+macro_of text = do
+  rest ← after (codes "AM") text
+  macro_in rest

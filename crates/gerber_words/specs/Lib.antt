@@ -1,0 +1,9 @@
+pub mod Numerals
+pub mod Words
+pub mod Settings
+pub mod Repeats
+pub mod Definitions
+pub mod Deprecated
+pub mod Extended
+pub mod Fits
+pub mod Texts
