@@ -1,0 +1,6 @@
+pub mod NumeralLaws
+pub mod PlaceLaws
+pub mod LetterLaws
+pub mod ReachedLaws
+pub mod ReadyLaws
+pub mod MemoryLaws

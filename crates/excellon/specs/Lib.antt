@@ -1,0 +1,13 @@
+pub mod Numerals
+pub mod Words
+pub mod Header
+pub mod Body
+pub mod Numbers
+pub mod InForce
+pub mod Drilled
+pub mod Checks
+pub mod Fits
+pub mod State
+pub mod Drill
+pub mod Reached
+pub mod Laws
