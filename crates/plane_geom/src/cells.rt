@@ -1,88 +1,22 @@
 // The cells of the lattice round a segment.
-ghost use Rattle.std.specs.Prelude.{◌≡◌, ℤ, ℕ, pos, neg_ℤ, ◌+ℤ◌, ◌*ℤ◌, ◌≤ℤ◌, ◌<ℤ◌, ◌≤◌, unsigned_abs, true};
+ghost use Rattle.std.specs.Prelude.{◌≡◌, ℤ, ℕ, pos, ◌+ℤ◌, ◌-ℤ◌, ◌≤◌, unsigned_abs, true};
 ghost use Rattle.std.specs.Int.{int_min, int_max};
 ghost use Rattle.board_base.specs.declared.places.Cell.{Cell};
-ghost use Rattle.board_base.specs.Places.{IsNearPlace, IsNearCoordinate};
+ghost use Rattle.board_base.specs.Places.{IsNearPlace, IsNearCoordinate, IsSpan};
 ghost use Rattle.board_base.specs.Near.{near_of};
-ghost use Rattle.board_base.specs.Lattice.{IsPitch, IsInBox, centre_of};
-ghost use Rattle.plane_geom.specs.Reach.{IsFirst, IsLast, IsQuotient, back_from as back_from_of, way_to as way_to_of};
+ghost use Rattle.board_base.specs.Lattice.{IsPitch, IsInBox, IsFirst, IsLast, IsLimit, centre_of};
+ghost use Rattle.plane_geom.specs.Reach.{half_cut as half_cut_of};
 
-use board_base::{CellBox, Point};
+use board_base::{CellBox, Point, first_at, last_at};
 
-// The quotient by twice the pitch, rounded down.
-fn quotient(n: i64, pitch: i64) -> i64
-    requires n { unsigned_abs n ≤ 6000000000 }
-    requires pitch { IsPitch pitch }
-    ensures value { IsQuotient n pitch result }
-    ensures size { unsigned_abs result ≤ 12000001 }
+// Half of a width, cut to a whole number.
+#[tactic(auto, unfolding(crate::specs::Reach::half_cut))]
+fn half_cut(d: i64) -> i64
+    requires { IsSpan d }
+    ensures value { result ≡ half_cut_of d }
+    ensures size { unsigned_abs result ≤ 2000000000 }
 {
-    n.div_euclid(2 * pitch)
-}
-
-// A number of columns or rows as an index, the other way.
-fn turned(n: i64) -> i32
-    requires { unsigned_abs n ≤ 12000001 }
-    ensures { result ≡ neg_ℤ n }
-{
-    -(n as i32)
-}
-
-// A number of columns or rows as an index.
-fn index(n: i64) -> i32
-    requires { unsigned_abs n ≤ 12000001 }
-    ensures { result ≡ n }
-{
-    n as i32
-}
-
-// Twice the way from half of `d` before `x` back to half a cell past the origin.
-#[tactic(auto, unfolding(crate::specs::Reach::back_from))]
-fn back_from(x: i64, d: i64, pitch: i64) -> i64
-    requires x { IsNearCoordinate x }
-    requires d_low { pos 0 ≤ℤ d }
-    requires d_high { d ≤ℤ pos 4000000000 }
-    requires pitch { IsPitch pitch }
-    ensures value { result ≡ back_from_of pitch d x }
-    ensures size { unsigned_abs result ≤ 6000000000 }
-{
-    pitch + d - 2 * x
-}
-
-// Twice the way from half a cell past the origin to half of `d` past `x`.
-#[tactic(auto, unfolding(crate::specs::Reach::way_to))]
-fn way_to(x: i64, d: i64, pitch: i64) -> i64
-    requires x { IsNearCoordinate x }
-    requires d_low { pos 0 ≤ℤ d }
-    requires d_high { d ≤ℤ pos 4000000000 }
-    requires pitch { IsPitch pitch }
-    ensures value { result ≡ way_to_of pitch d x }
-    ensures size { unsigned_abs result ≤ 6000000000 }
-{
-    2 * x + d - pitch
-}
-
-// The first column or row whose middle is at most half of `d` before `x`.
-fn first(x: i64, d: i64, pitch: i64) -> i32
-    requires x { IsNearCoordinate x }
-    requires d_low { pos 0 ≤ℤ d }
-    requires d_high { d ≤ℤ pos 4000000000 }
-    requires pitch { IsPitch pitch }
-    ensures { IsFirst pitch d x result }
-{
-    let n = back_from(x, d, pitch);
-    turned(quotient(n, pitch))
-}
-
-// The last column or row whose middle is at most half of `d` past `x`.
-fn last(x: i64, d: i64, pitch: i64) -> i32
-    requires x { IsNearCoordinate x }
-    requires d_low { pos 0 ≤ℤ d }
-    requires d_high { d ≤ℤ pos 4000000000 }
-    requires pitch { IsPitch pitch }
-    ensures { IsLast pitch d x result }
-{
-    let n = way_to(x, d, pitch);
-    index(quotient(n, pitch))
+    d.div_euclid(2)
 }
 
 // The lesser of two coordinates.
@@ -105,28 +39,48 @@ fn greatest(a: i64, b: i64) -> i64
     if b < a { a } else { b }
 }
 
-// The first column or row by the lesser of two ends.
+// Half of `d` before both ends.
+fn before(a: i64, b: i64, d: i64) -> i64
+    requires a { IsNearCoordinate a }
+    requires b { IsNearCoordinate b }
+    requires d { IsSpan d }
+    ensures value { result ≡ int_min a b -ℤ half_cut_of d }
+    ensures size { IsLimit result }
+{
+    least(a, b) - half_cut(d)
+}
+
+// Half of `d` past both ends.
+fn behind(a: i64, b: i64, d: i64) -> i64
+    requires a { IsNearCoordinate a }
+    requires b { IsNearCoordinate b }
+    requires d { IsSpan d }
+    ensures value { result ≡ int_max a b +ℤ half_cut_of d }
+    ensures size { IsLimit result }
+{
+    greatest(a, b) + half_cut(d)
+}
+
+// The first column or row from half of `d` before both ends on.
 fn first_of(a: i64, b: i64, d: i64, pitch: i64) -> i32
     requires a { IsNearCoordinate a }
     requires b { IsNearCoordinate b }
-    requires d_low { pos 0 ≤ℤ d }
-    requires d_high { d ≤ℤ pos 4000000000 }
+    requires d { IsSpan d }
     requires pitch { IsPitch pitch }
-    ensures { IsFirst pitch d (int_min a b) result }
+    ensures { IsFirst pitch (int_min a b -ℤ half_cut_of d) result }
 {
-    first(least(a, b), d, pitch)
+    first_at(before(a, b, d), pitch)
 }
 
-// The last column or row by the greater of two ends.
+// The last column or row up to half of `d` past both ends.
 fn last_of(a: i64, b: i64, d: i64, pitch: i64) -> i32
     requires a { IsNearCoordinate a }
     requires b { IsNearCoordinate b }
-    requires d_low { pos 0 ≤ℤ d }
-    requires d_high { d ≤ℤ pos 4000000000 }
+    requires d { IsSpan d }
     requires pitch { IsPitch pitch }
-    ensures { IsLast pitch d (int_max a b) result }
+    ensures { IsLast pitch (int_max a b +ℤ half_cut_of d) result }
 {
-    last(greatest(a, b), d, pitch)
+    last_at(behind(a, b, d), pitch)
 }
 
 /// The cells round the segment `ab`, from the first column and row whose middle is at most half of
@@ -135,14 +89,13 @@ fn last_of(a: i64, b: i64, d: i64, pitch: i64) -> i32
 pub fn reach(a: Point, b: Point, d: i64, pitch: i64) -> CellBox
     requires a { IsNearPlace a }
     requires b { IsNearPlace b }
-    requires d_low { pos 0 ≤ℤ d }
-    requires d_high { d ≤ℤ pos 4000000000 }
+    requires d { IsSpan d }
     requires pitch { IsPitch pitch }
     ensures holds { (c : Cell) → near_of (centre_of pitch c) a b d ≡ true → IsInBox result c }
-    ensures west { IsFirst pitch d (int_min a.x b.x) result.i0 }
-    ensures south { IsFirst pitch d (int_min a.y b.y) result.j0 }
-    ensures east { IsLast pitch d (int_max a.x b.x) result.i1 }
-    ensures north { IsLast pitch d (int_max a.y b.y) result.j1 }
+    ensures west { IsFirst pitch (int_min a.x b.x -ℤ half_cut_of d) result.i0 }
+    ensures south { IsFirst pitch (int_min a.y b.y -ℤ half_cut_of d) result.j0 }
+    ensures east { IsLast pitch (int_max a.x b.x +ℤ half_cut_of d) result.i1 }
+    ensures north { IsLast pitch (int_max a.y b.y +ℤ half_cut_of d) result.j1 }
 {
     let i0 = first_of(a.x, b.x, d, pitch);
     let j0 = first_of(a.y, b.y, d, pitch);

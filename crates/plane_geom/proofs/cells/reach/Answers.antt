@@ -74,5 +74,5 @@ returns-clause-holds c =
     let f3 : SFits w32 c.last_of-i1.result = search rules in
     let f4 : SFits w32 c.last_of-j1.result = search rules in
     simp to_z-of_z
-    (λ cell n. round_holds c.args.pitch c.args.d c.args.a c.args.b _ cell c.requires.pitch c.requires.d_low
+    (λ cell n. round_holds c.args.pitch c.args.d c.args.a c.args.b _ cell c.requires.d.low
     (record { west = simp to_z-of_z at c.first_of-i0.ensures; south = simp to_z-of_z at c.first_of-j0.ensures; east = simp to_z-of_z at c.last_of-i1.ensures; north = simp to_z-of_z at c.last_of-j1.ensures }) n)

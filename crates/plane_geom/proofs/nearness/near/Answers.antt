@@ -5,7 +5,7 @@ use Rattle.std.proofs.Common.{rules}
 use Rattle.std.proofs.lemmas.Int.{to_z-of_z}
 use mir.Val.{SFits}
 use mir.Syntax.{w64, w128}
-use Rattle.plane_geom.proofs.near.Goals as goal
+use Rattle.plane_geom.proofs.nearness.near.Goals as goal
 
 near-spans : (q a b : Point) (d ux uy wx wy vx vy : ℤ) (r : Bool) → ux ≡ from_to a.x b.x → uy ≡ from_to a.y b.y → wx ≡ from_to a.x q.x → wy ≡ from_to a.y q.y
     → vx ≡ from_to b.x q.x → vy ≡ from_to b.y q.y → r ≡ near_vec ux uy wx wy vx vy d → r ≡ near_of q a b d
