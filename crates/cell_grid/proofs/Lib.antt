@@ -2,4 +2,5 @@ pub mod PlaceLaws
 pub mod PlaneLaws
 pub mod QueueLaws
 pub mod BoxLaws
+pub mod WindowLaws
 pub mod CellsLaws

@@ -1,6 +1,7 @@
 pub mod Place
 pub mod Limits
 pub mod Boxes
+pub mod Windows
 pub mod Waiting
 pub mod Stored
 pub mod Rows

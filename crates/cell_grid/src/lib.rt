@@ -9,12 +9,14 @@ mod frames;
 mod queues;
 mod rows;
 mod tables;
+mod windows;
 
 pub use bits::Plane;
-pub use boxes::frame_of;
+pub use boxes::{cells_within, frame_of};
 pub use frames::{Frame, GridError, cell_at, is_in_frame};
 pub use rows::RowBits;
 pub use tables::Workbench;
+pub use windows::{Span, Window, span_of, window_of};
 
 #[cfg(test)]
 mod tests;
