@@ -5,20 +5,16 @@ use Rattle.std.proofs.lemmas.Bool.{cases_eq, cases_lt, false≢true}
 use borrow.Author.Differences.{ints}
 use Rattle.board_base.specs.declared.places.Point.{Point}
 use Rattle.board_base.specs.declared.places.Cell.{Cell}
-use Rattle.board_base.specs.declared.places.CellBox.{CellBox}
-use Rattle.board_base.specs.Lattice.{IsInBox, centre_of}
+use Rattle.board_base.specs.Lattice.{centre_of}
 use Rattle.board_base.specs.Near.{near_of}
 use Rattle.cell_grid.specs.declared.frames.Frame.{Frame}
 use Rattle.cell_grid.specs.Place.{IsFrame, InFrame, place_of, row_of, column_of, cells_of}
 use Rattle.cell_grid.specs.Grid.{Grid, IsSized}
 use Rattle.cell_grid.specs.Cells.{in_plane, in_frame}
+use Rattle.cell_grid.specs.declared.windows.Window.{Window}
+use Rattle.cell_grid.specs.Windows.{IsInWindow}
 use Rattle.cell_grid.proofs.PlaceLaws.{place_below, place_same}
 use Rattle.cell_grid.proofs.CellsLaws.{in_frame_true}
-use Rattle.separation_check.specs.declared.sweeps.Sides.{Sides}
-use Rattle.separation_check.specs.Sides.{IsBetween, AreBetween}
-
-column_is : (i i0 : ℤ) (w : ℕ) → i0 ≤ℤ i → i <ℤ (i0 +ℤ pos w) → (i ≡ i0 +ℤ pos (unsigned_abs (i -ℤ i0))) × (unsigned_abs (i -ℤ i0) < w)
-column_is i i0 w l h = (omega (arith, ints), omega (arith, ints))
 
 -- the cell stands before column x of row y, in the order of rows
 abbrev pub IsPassed : Frame → ℕ → ℕ → Cell → Type 0
@@ -152,54 +148,32 @@ marked start g frame a b d y x p all c h =
     (λ near. p.done c k (all c k near) near)
     ∙ ap (λ (v : Bool). v || near_of (centre_of frame.pitch c) a b d) (sym (at_true (in_frame frame c) (get_or start.swept (place_of frame c) false) false i)))
 
--- how many columns or rows come before a limit
-abbrev pub IsCountBefore : ℤ → ℤ → ℕ → ℕ → Type 0
-IsCountBefore limit start count n = (x : ℕ) → x < count → (x < n) ↔ ((start +ℤ pos x) <ℤ limit)
+-- the cells of the frame that are near the segment ab with d stand in this window
+abbrev pub AreBetween : Frame → Point → Point → ℤ → Window → Type 0
+AreBetween f a b d w = (c : Cell) → InFrame f c → near_of (centre_of f.pitch c) a b d ≡ true → IsInWindow f w c
 
--- a cell of the frame that lies in the box has its column and row between the box's sides
-pub in_sides : (f : Frame) (box : CellBox) (s : Sides) (c : Cell) → IsCountBefore box.j0 f.j0 f.height s.south → IsCountBefore (box.j1 +ℤ pos 1) f.j0 f.height s.north
-    → IsCountBefore box.i0 f.i0 f.width s.west → IsCountBefore (box.i1 +ℤ pos 1) f.i0 f.width s.east → InFrame f c → IsInBox box c → IsBetween f s c
-in_sides f box s c low up w e h k =
-    let x = column_is c.i f.i0 f.width h.column.low h.column.high in
-    let y = column_is c.j f.j0 f.height h.row.low h.row.high in
-    record {
-      south = late (row_of f c) s.south (λ l. under c.j f.j0 box.j0 (row_of f c) y.0 ((low (row_of f c) y.1).0 l) k.south);
-      north = (up (row_of f c) y.1).1 (next c.j f.j0 box.j1 (row_of f c) y.0 k.north);
-      west = late (column_of f c) s.west (λ l. under c.i f.i0 box.i0 (column_of f c) x.0 ((w (column_of f c) x.1).0 l) k.west);
-      east = (e (column_of f c) x.1).1 (next c.i f.i0 box.i1 (column_of f c) x.0 k.east);
-    }
-  where
-    late : (v n : ℕ) → (v < n → ⊥) → n ≤ v
-    late v n f = elim (cases_lt v n) as (λ _. n ≤ v) [ inl l ↦ absurd (f l) | inr past ↦ omega (arith, past) ]
-
-    under : (i start first : ℤ) (n : ℕ) → i ≡ start +ℤ pos n → (start +ℤ pos n) <ℤ first → first ≤ℤ i → ⊥
-    under i start first n e l h = omega (arith, ints)
-
-    next : (i start last : ℤ) (n : ℕ) → i ≡ start +ℤ pos n → i ≤ℤ last → (start +ℤ pos n) <ℤ (last +ℤ pos 1)
-    next i start last n e l = omega (arith, ints)
-
-module _ (start : Grid) (frame : Frame) (a b : Point) (d : ℤ) (s : Sides) (all : AreBetween frame a b d s) where
-  pub rows_begun : frame ≡ start.frame → IsFrame frame → IsSized start → IsMarking start start frame a b d s.south 0
-  rows_begun e v sized = marking_begun start frame a b d s.south 0 e v sized (λ c h p near. let q = all c h near in none (row_of frame c) (column_of frame c) p q.south)
+module _ (start : Grid) (frame : Frame) (a b : Point) (d : ℤ) (s : Window) (all : AreBetween frame a b d s) where
+  pub rows_begun : frame ≡ start.frame → IsFrame frame → IsSized start → IsMarking start start frame a b d s.rows.from 0
+  rows_begun e v sized = marking_begun start frame a b d s.rows.from 0 e v sized (λ c h p near. let q = all c h near in none (row_of frame c) (column_of frame c) p q.row.from)
     where
-      none : (r x : ℕ) → (r < s.south) ⊎ ((r ≡ s.south) × (x < 0)) → s.south ≤ r → ⊥
+      none : (r x : ℕ) → (r < s.rows.from) ⊎ ((r ≡ s.rows.from) × (x < 0)) → s.rows.from ≤ r → ⊥
       none r x p l = elim p as (λ _. ⊥) [ inl less ↦ omega (arith, less, l) | inr level ↦ omega (arith, level.1) ]
 
-  pub row_begun : (g : Grid) (y : ℕ) → IsMarking start g frame a b d y 0 → IsMarking start g frame a b d y s.west
-  row_begun g y p = marking_on start g frame a b d y 0 y s.west p (λ c h q near. back (row_of frame c) (column_of frame c) q (all c h near).west)
+  pub row_begun : (g : Grid) (y : ℕ) → IsMarking start g frame a b d y 0 → IsMarking start g frame a b d y s.columns.from
+  row_begun g y p = marking_on start g frame a b d y 0 y s.columns.from p (λ c h q near. back (row_of frame c) (column_of frame c) q (all c h near).column.from)
     where
-      back : (r x : ℕ) → (r < y) ⊎ ((r ≡ y) × (x < s.west)) → s.west ≤ x → (r < y) ⊎ ((r ≡ y) × (x < 0))
+      back : (r x : ℕ) → (r < y) ⊎ ((r ≡ y) × (x < s.columns.from)) → s.columns.from ≤ x → (r < y) ⊎ ((r ≡ y) × (x < 0))
       back r x p l = elim p as (λ _. (r < y) ⊎ ((r ≡ y) × (x < 0))) [ inl less ↦ inl less | inr level ↦ absurd (omega (arith, level.1, l)) ]
 
-  pub row_ended : (g : Grid) (y x : ℕ) → s.east ≤ x → IsMarking start g frame a b d y x → IsMarking start g frame a b d (y + 1) 0
-  row_ended g y x past p = marking_on start g frame a b d y x (y + 1) 0 p (λ c h q near. back (row_of frame c) (column_of frame c) q (all c h near).east)
+  pub row_ended : (g : Grid) (y x : ℕ) → s.columns.to ≤ x → IsMarking start g frame a b d y x → IsMarking start g frame a b d (y + 1) 0
+  row_ended g y x past p = marking_on start g frame a b d y x (y + 1) 0 p (λ c h q near. back (row_of frame c) (column_of frame c) q (all c h near).column.to)
     where
-      back : (r v : ℕ) → (r < y + 1) ⊎ ((r ≡ y + 1) × (v < 0)) → v < s.east → (r < y) ⊎ ((r ≡ y) × (v < x))
+      back : (r v : ℕ) → (r < y + 1) ⊎ ((r ≡ y + 1) × (v < 0)) → v < s.columns.to → (r < y) ⊎ ((r ≡ y) × (v < x))
       back r v p l = elim p as (λ _. (r < y) ⊎ ((r ≡ y) × (v < x))) [
         | inl less ↦ elim (cases_eq r y) as (λ _. (r < y) ⊎ ((r ≡ y) × (v < x))) [ inl e ↦ inr (e, omega (arith, past, l)) | inr ne ↦ inl (omega (arith, less, ne)) ]
         | inr level ↦ absurd (omega (arith, level.1))
       ]
 
-  pub rows_ended : (g : Grid) (y : ℕ) → s.north ≤ y → IsMarking start g frame a b d y 0 → (c : Cell) → InFrame start.frame c
+  pub rows_ended : (g : Grid) (y : ℕ) → s.rows.to ≤ y → IsMarking start g frame a b d y 0 → (c : Cell) → InFrame start.frame c
       → in_plane start.frame g.swept c ≡ (in_plane start.frame start.swept c || near_of (centre_of start.frame.pitch c) a b d)
-  rows_ended g y past p = marked start g frame a b d y 0 p (λ c h near. inl (omega (arith, past, (all c h near).north)))
+  rows_ended g y past p = marked start g frame a b d y 0 p (λ c h near. inl (omega (arith, past, (all c h near).row.to)))

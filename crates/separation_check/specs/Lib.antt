@@ -1,4 +1,3 @@
-pub mod Sides
 pub mod Laws
 pub mod Unswept
 pub mod Meetings

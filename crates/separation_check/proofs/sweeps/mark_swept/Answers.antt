@@ -11,10 +11,10 @@ use Rattle.separation_check.proofs.sweeps.mark_swept.Goals as goal
 use Rattle.separation_check.proofs.sweeps.mark_swept.Goals.{then-is_near, else-is_near}
 
 pub rows-init : goal.rows-init
-rows-init c = rows_begun _ _ _ _ _ _ c.part_near-part.ensures.each c.frame-frame.ensures.value c.frame-frame.ensures.valid c.frame-frame.ensures.sized
+rows-init c = rows_begun _ _ _ _ _ _ c.window_near-window.ensures.each c.frame-frame.ensures.value c.frame-frame.ensures.valid c.frame-frame.ensures.sized
 
 pub cells-init : goal.cells-init
-cells-init c = row_begun _ _ _ _ _ _ c.part_near-part.ensures.each _ _ c.rows.invariant
+cells-init c = row_begun _ _ _ _ _ _ c.window_near-window.ensures.each _ _ c.rows.invariant
 
 pub is_near-requires-clause-cell : goal.is_near-requires-clause-cell
 is_near-requires-clause-cell c =
@@ -32,9 +32,9 @@ cells-preserved c =
     ]
 
 pub rows-preserved : goal.rows-preserved
-rows-preserved c = row_ended _ _ _ _ _ _ c.part_near-part.ensures.each _ _ _ (omega (arith, c.cells-test.false)) c.cells.invariant
+rows-preserved c = row_ended _ _ _ _ _ _ c.window_near-window.ensures.each _ _ _ (omega (arith, c.cells-test.false)) c.cells.invariant
 
 pub returns-clause-marks : goal.returns-clause-marks
 returns-clause-marks c = λ e h.
     let d : SFits w64 c.args.d = search rules in
-    simp to_z-of_z at (rows_ended _ _ _ _ _ _ c.part_near-part.ensures.each _ _ (omega (arith, c.rows-test.false)) c.rows.invariant e h)
+    simp to_z-of_z at (rows_ended _ _ _ _ _ _ c.window_near-window.ensures.each _ _ (omega (arith, c.rows-test.false)) c.rows.invariant e h)
