@@ -8,12 +8,12 @@ use Rattle.board_base.specs.declared.places.Point.{Point}
 use Rattle.board_base.specs.Near.{near_of}
 use Rattle.board_base.specs.Lattice.{centre_of, IsInBox}
 use Rattle.board_base.specs.Places.{IsNearPlace, IsNearCoordinate}
-use Rattle.area_rows.specs.Rows.{centre_at}
-use Rattle.area_rows.proofs.CellLaws.{cells_law_holds}
+use Rattle.poly_area.specs.Rows.{centre_at}
+use Rattle.poly_area.proofs.CellLaws.{cells_law_holds}
 use Rattle.plane_geom.proofs.Axis.{reached_of, axis_low, axis_high, second_part}
 use Rattle.copper_cover.specs.declared.columns.Row.{Row}
-use Rattle.copper_cover.specs.declared.cells.Span.{Span}
-use Rattle.copper_cover.specs.Windows.{IsInSpan}
+use Rattle.cell_grid.specs.declared.windows.Span.{Span}
+use Rattle.cell_grid.specs.Windows.{IsInSpan}
 use Rattle.copper_cover.specs.Rows.{east_of, centre_in, is_over, is_under, misses, IsRow}
 
 -- the first cell of a row is the one no column east of it

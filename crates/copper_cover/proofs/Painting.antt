@@ -4,18 +4,19 @@ use Rattle.std.proofs.lemmas.List.{length-set}
 use Rattle.std.proofs.lemmas.Bool.{cases_eq, false≢true}
 use Rattle.std.proofs.lemmas.Int.{by_lt_z}
 use borrow.Author.Differences.{ints}
-use Rattle.number_laws.proofs.Ring.{var, add, mul, ring}
 use Rattle.number_laws.proofs.Tests.{by_bool}
 use Rattle.number_laws.proofs.Order.{square_nonneg}
 use Rattle.board_base.specs.declared.places.Cell.{Cell}
 use Rattle.board_base.specs.declared.places.Point.{Point}
 use Rattle.board_base.specs.declared.places.Bounds.{Bounds}
-use Rattle.board_base.specs.Lattice.{half_of, middle, centre_of, half_diagonal_of}
+use Rattle.board_base.specs.declared.places.CellBox.{CellBox}
+use Rattle.board_base.specs.Lattice.{IsInBox, centre_of, half_diagonal_of}
 use Rattle.cell_grid.specs.declared.frames.Frame.{Frame}
 use Rattle.cell_grid.specs.Grid.{Grid, IsSized}
 use Rattle.cell_grid.specs.Place.{IsFrame, InFrame, IsBetween, place_of, column_of, row_of, cells_of}
 use Rattle.cell_grid.specs.Cells.{in_plane}
-use Rattle.cell_grid.proofs.PlaceLaws.{place_below, place_same}
+use Rattle.cell_grid.specs.Boxes.{HoldsCentres}
+use Rattle.cell_grid.proofs.PlaceLaws.{place_below, place_same, column_below}
 use Rattle.cell_grid.proofs.CellsLaws.{in_frame_true}
 use Rattle.shape_parts.specs.declared.shape.Piece.{Piece}
 use Rattle.shape_parts.specs.declared.shape.Painted.{Painted}
@@ -28,10 +29,10 @@ use Rattle.shape_parts.specs.declared.shape.Part.{Part}
 use Rattle.shape_parts.specs.Parts.{part_touches, part_covers}
 use Rattle.shape_parts.proofs.PartLaws.{IsReach, part_touched, part_covered}
 use Rattle.shape_parts.proofs.CoverLaws.{shape_touched, shape_covered}
-use Rattle.copper_cover.specs.declared.cells.Span.{Span}
-use Rattle.copper_cover.specs.declared.cells.Window.{Window}
+use Rattle.cell_grid.specs.declared.windows.Span.{Span}
+use Rattle.cell_grid.specs.declared.windows.Window.{Window}
 use Rattle.copper_cover.specs.Kept.{kept_after, keeps_after, keeps}
-use Rattle.copper_cover.specs.Windows.{IsInSpan, IsInWindow, IsWindowOf}
+use Rattle.cell_grid.specs.Windows.{IsInSpan, IsInWindow, IsWindowOf}
 
 -- ---- a covered cell is touched
 
@@ -81,12 +82,6 @@ untouched c h o h_in e b =
 
 pub in_plane_in : (f : Frame) (plane : List Bool) (c : Cell) → InFrame f c → in_plane f plane c ≡ get_or plane (place_of f c) false
 in_plane_in f plane c h = ap (λ (b : Bool). cond b (get_or plane (place_of f c) false) false) (in_frame_true f c h)
-
-pub column_below : (f : Frame) (c : Cell) → InFrame f c → column_of f c < f.width
-column_below f c h = omega (arith, ints)
-
-pub row_below : (f : Frame) (c : Cell) → InFrame f c → row_of f c < f.height
-row_below f c h = omega (arith, ints)
 
 -- one of two numbers is below the other, or not
 by_lt : {P : Type 0} (a b : ℕ) → (a < b → P) → (b ≤ a → P) → P
@@ -274,70 +269,24 @@ module _ (start g : Grid) (frame : Frame) (after : Bool → Cell → Bool) (w : 
 pub in_next : (y x w : ℕ) → x ≤ w → y * w + x ≤ (y + 1) * w
 in_next y x w l = omega arith
 
--- ---- middles past a limit
+-- ---- a window by the rectangle that it goes round
 
-pub past_limit : (limit first pitch : ℤ) (gap steps m : ℕ) → pos m ≡ pitch → ((t : ℕ) → (gap ≤ t) ↔ (limit ≤ℤ (first +ℤ pos t))) → ((k : ℕ) → (steps ≤ k) ↔ (gap ≤ k * m))
-    → (k : ℕ) → (steps ≤ k) ↔ (limit ≤ℤ (first +ℤ pos k *ℤ pitch))
-past_limit limit first pitch gap steps m e past over k =
-    subst (λ (p : ℤ). (steps ≤ k) ↔ (limit ≤ℤ (first +ℤ pos k *ℤ p))) e (λ l. (past (k * m)).0 ((over k).0 l), λ l. (over k).1 ((past (k * m)).1 l))
-
--- where the count is no more than the steps, no number below it is past the limit
-pub past_count : {P : Type 0} (steps count k : ℕ) → count ≤ steps → k < count → (steps ≤ k) ↔ P → (count ≤ k) ↔ P
-past_count steps count k l h f = (λ a. absurd (clash a h), λ t. absurd (far (f.1 t) l h))
-  where
-    clash : {a b : ℕ} → a ≤ b → b < a → ⊥
-    clash a h = omega arith
-
-    far : {a b d : ℕ} → a ≤ b → d ≤ a → b < d → ⊥
-    far a l h = omega arith
-
-pub in_span : (from to k : ℕ) (m low high west east : ℤ) → (from ≤ k) ↔ (west ≤ℤ m) → (to ≤ k) ↔ (east ≤ℤ m) → west ≡ low → east ≡ high +ℤ pos 1
-    → IsInSpan (record { from = from; to = to }) k ↔ (low ≤ℤ m × m ≤ℤ high)
-in_span from to k m low high west east f g d e = (λ i. (subst (λ (z : ℤ). z ≤ℤ m) d (f.0 i.from), below i.to), λ p. record { from = f.1 (subst (λ (z : ℤ). z ≤ℤ m) (sym d) p.0); to = above p.1 })
-  where
-    below : k < to → m ≤ℤ high
-    below l = by_lt_z high m (λ (t : high <ℤ m). absurd (clash l (g.1 (next high m east e t)))) (λ (t : m ≤ℤ high). t)
-      where
-        next : (a b c : ℤ) → c ≡ a +ℤ pos 1 → a <ℤ b → c ≤ℤ b
-        next a b c e t = omega (arith, ints)
-
-        clash : {a b : ℕ} → a < b → b ≤ a → ⊥
-        clash a b = omega arith
-
-    above : m ≤ℤ high → k < to
-    above l = by_lt k to (λ (t : k < to). t) (λ (t : to ≤ k). absurd (clash high m east e l (g.0 t)))
-      where
-        clash : (a b c : ℤ) → c ≡ a +ℤ pos 1 → b ≤ℤ a → c ≤ℤ b → ⊥
-        clash a b c e h k = omega (arith, ints)
-
--- the middle of a column, from the first one
-middle_on : (p from i : ℤ) (n : ℕ) → IsBetween i from n → middle p from +ℤ pos (unsigned_abs (i -ℤ from)) *ℤ p ≡ middle p i
-unfolding middle
-middle_on p from i n h =
-    let k = pos (unsigned_abs (i -ℤ from)) in
-    let P = var 0 in let F = var 1 in let K = var 2 in let H = var 3 in
-    ring (p ∷ from ∷ k ∷ half_of p ∷ []) (add (add (mul F P) H) (mul K P)) (add (mul (add F K) P) H) refl ∙ ap (λ (z : ℤ). z *ℤ p +ℤ half_of p) (sum i from h)
-  where
-    sum : (i from : ℤ) → IsBetween i from n → from +ℤ pos (unsigned_abs (i -ℤ from)) ≡ i
-    sum i from h = omega (arith, ints)
-
--- a span of columns, or rows, by the middles
-axis : (p from i low high h : ℤ) (n : ℕ) (s : Span) → IsBetween i from n
-    → (IsInSpan s (unsigned_abs (i -ℤ from)) ↔ ((low -ℤ h) ≤ℤ (middle p from +ℤ pos (unsigned_abs (i -ℤ from)) *ℤ p) × (middle p from +ℤ pos (unsigned_abs (i -ℤ from)) *ℤ p) ≤ℤ (high +ℤ h)))
-    → IsInSpan s (unsigned_abs (i -ℤ from)) ↔ ((low -ℤ h) ≤ℤ middle p i × middle p i ≤ℤ (high +ℤ h))
-axis p from i low high h n s b f = subst (λ (m : ℤ). IsInSpan s (unsigned_abs (i -ℤ from)) ↔ ((low -ℤ h) ≤ℤ m × m ≤ℤ (high +ℤ h))) (middle_on p from i n b) f
-
--- the window of a rectangle
-pub in_window : (f : Frame) (b : Bounds) (h : ℤ) (columns rows : Span)
-    → ((k : ℕ) → k < f.width → IsInSpan columns k ↔ ((b.x0 -ℤ h) ≤ℤ (middle f.pitch f.i0 +ℤ pos k *ℤ f.pitch) × (middle f.pitch f.i0 +ℤ pos k *ℤ f.pitch) ≤ℤ (b.x1 +ℤ h)))
-    → ((k : ℕ) → k < f.height → IsInSpan rows k ↔ ((b.y0 -ℤ h) ≤ℤ (middle f.pitch f.j0 +ℤ pos k *ℤ f.pitch) × (middle f.pitch f.j0 +ℤ pos k *ℤ f.pitch) ≤ℤ (b.y1 +ℤ h)))
-    → (c : Cell) → InFrame f c → IsInWindow f (record { columns = columns; rows = rows }) c ↔ HasSquare b (centre_of f.pitch c) (pos 0 -ℤ h)
-in_window f b h columns rows x y c i =
-    let u = axis f.pitch f.i0 c.i b.x0 b.x1 h f.width columns i.column (x (column_of f c) (column_below f c i)) in
-    let v = axis f.pitch f.j0 c.j b.y0 b.y1 h f.height rows i.row (y (row_of f c) (row_below f c i)) in (
-      λ w. record { west = low b.x0 h _ (u.0 w.column).0; east = high b.x1 h _ (u.0 w.column).1; south = low b.y0 h _ (v.0 w.row).0; north = high b.y1 h _ (v.0 w.row).1 },
-      λ s. record { column = u.1 (low' b.x0 h _ s.west, high' b.x1 h _ s.east); row = v.1 (low' b.y0 h _ s.south, high' b.y1 h _ s.north) },
-    )
+-- a box of cells by the rectangle that holds their centres
+box_square : (p h : ℤ) (b : Bounds) (box : CellBox) (c : Cell) → HoldsCentres p h b box → IsInBox box c ↔ HasSquare b (centre_of p c) (pos 0 -ℤ h)
+box_square p h b box c holds = (
+  λ i. record {
+    west = low b.x0 h _ ((holds.west.all c.i).0 i.west);
+    east = high b.x1 h _ ((holds.east.all c.i).0 i.east);
+    south = low b.y0 h _ ((holds.south.all c.j).0 i.south);
+    north = high b.y1 h _ ((holds.north.all c.j).0 i.north);
+  },
+  λ s. record {
+    west = (holds.west.all c.i).1 (low' b.x0 h _ s.west);
+    east = (holds.east.all c.i).1 (high' b.x1 h _ s.east);
+    south = (holds.south.all c.j).1 (low' b.y0 h _ s.south);
+    north = (holds.north.all c.j).1 (high' b.y1 h _ s.north);
+  },
+)
   where
     low : (a h m : ℤ) → (a -ℤ h) ≤ℤ m → (a +ℤ (pos 0 -ℤ h)) ≤ℤ m
     low a h m l = omega (arith, ints)
@@ -350,6 +299,11 @@ in_window f b h columns rows x y c i =
 
     high' : (a h m : ℤ) → (m +ℤ (pos 0 -ℤ h)) ≤ℤ a → m ≤ℤ (a +ℤ h)
     high' a h m l = omega (arith, ints)
+
+-- the window of a rectangle
+pub in_window : (f : Frame) (h : ℤ) (b : Bounds) (box : CellBox) (w : Window) (c : Cell) → HoldsCentres f.pitch h b box → IsInWindow f w c ↔ IsInBox box c
+    → IsInWindow f w c ↔ HasSquare b (centre_of f.pitch c) (pos 0 -ℤ h)
+in_window f h b box w c holds e = let k = box_square f.pitch h b box c holds in (λ i. k.0 (e.0 i), λ s. e.1 (k.1 s))
 
 -- ---- one object
 

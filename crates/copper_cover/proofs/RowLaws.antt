@@ -11,8 +11,8 @@ use Rattle.board_base.specs.Near.{near_of}
 use Rattle.shape_parts.specs.declared.shape.Part.TheVariants.{Capsule}
 use Rattle.shape_parts.specs.Parts.{grown, part_touches, part_covers}
 use Rattle.copper_cover.proofs.Painting.{covered_part_touched}
-use Rattle.copper_cover.specs.declared.cells.Span.{Span}
-use Rattle.copper_cover.specs.Windows.{IsInSpan}
+use Rattle.cell_grid.specs.declared.windows.Span.{Span}
+use Rattle.cell_grid.specs.Windows.{IsInSpan}
 use Rattle.copper_cover.specs.Rows.{bit_after}
 
 -- the bits of the columns before n are written as f says, and the others as they were

@@ -10,9 +10,9 @@ use Rattle.cell_grid.specs.Place.{IsFrame, InFrame}
 use Rattle.shape_parts.specs.declared.shape.Painted.{Painted}
 use Rattle.shape_parts.specs.Shapes.{shape_touches, shape_covers}
 use Rattle.copper_cover.specs.declared.columns.Row.{Row}
-use Rattle.copper_cover.specs.declared.cells.Window.{Window}
+use Rattle.cell_grid.specs.declared.windows.Window.{Window}
 use Rattle.copper_cover.specs.Kept.{kept_after}
-use Rattle.copper_cover.specs.Windows.{IsInWindow}
+use Rattle.cell_grid.specs.Windows.{IsInWindow}
 use Rattle.copper_cover.specs.Rows.{east_of, centre_in, IsRow, bit_after}
 
 -- the row starts at column x and row y of the frame

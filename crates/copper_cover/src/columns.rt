@@ -1,12 +1,12 @@
 // The columns of a row of cells. Lengths are in nanometres.
-ghost use Rattle.std.specs.Prelude.{◌≡◌, ℕ, ℤ, pos, ◌+ℤ◌, ◌≤ℤ◌, ◌<◌, ◌≤◌, ◌^◌, ◌↔◌, unsigned_abs, true};
+ghost use Rattle.std.specs.Prelude.{◌≡◌, ℕ, ℤ, pos, ◌≤ℤ◌, ◌<◌, ◌≤◌, unsigned_abs, true};
 ghost use Rattle.board_base.specs.Places.{IsNearPlace, IsNearCoordinate};
 ghost use Rattle.board_base.specs.Near.{near_of};
-ghost use Rattle.copper_cover.specs.Windows.{IsInSpan};
+ghost use Rattle.cell_grid.specs.Windows.{IsInSpan};
 ghost use Rattle.copper_cover.specs.Rows.{east_of, is_over as is_over_of, is_under as is_under_of, misses, IsRow, centre_in};
 
-use crate::cells::Span;
 use board_base::{Cell, Point, centre};
+use cell_grid::{Span, span_of};
 use plane_geom::reach;
 
 // A row of cells from the first one on: the height of their centres, the pitch, and half the diagonal of
@@ -84,33 +84,6 @@ pub(crate) fn misses_row(y: i64, d: i64, a: i64, b: i64) -> bool
     }
 }
 
-// How many of `n` columns from `first` on are before `i`.
-fn steps_to(i: i64, first: i64, n: u32) -> u32
-    requires i { unsigned_abs i ≤ 2 ^ 40 }
-    requires first { unsigned_abs first ≤ 2 ^ 40 }
-    ensures past { (k : ℕ) → k < n → (result ≤ k) ↔ (i ≤ℤ (first +ℤ pos k)) }
-    ensures most { result ≤ n }
-{
-    if i <= first {
-        return 0;
-    }
-    let k = (i - first) as u64;
-    if k < n as u64 { k as u32 } else { n }
-}
-
-// The columns from `low` to `high`, of `n` from `first` on.
-fn columns_of(low: i32, high: i32, first: i32, n: u32) -> Span
-    ensures holds { (k : ℕ) → k < n → IsInSpan result k ↔ (low ≤ℤ (first +ℤ pos k) × (first +ℤ pos k) ≤ℤ high) }
-    ensures from { result.from ≤ n }
-    ensures to { result.to ≤ n }
-{
-    let end = high as i64 + 1;
-    Span {
-        from: steps_to(low as i64, first as i64, n),
-        to: steps_to(end, first as i64, n),
-    }
-}
-
 // The columns of a row of `n` cells among which are all whose centres are near a segment.
 pub(crate) fn columns_near(a: Point, b: Point, d: i64, row: Row, n: u32) -> Span
     requires a { IsNearPlace a }
@@ -123,5 +96,5 @@ pub(crate) fn columns_near(a: Point, b: Point, d: i64, row: Row, n: u32) -> Span
     ensures to { result.to ≤ n }
 {
     let cells = reach(a, b, d, row.pitch);
-    columns_of(cells.i0, cells.i1, row.first.i, n)
+    span_of(cells.i0, cells.i1, row.first.i, n)
 }

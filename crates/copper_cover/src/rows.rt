@@ -11,10 +11,9 @@ ghost use Rattle.copper_cover.specs.Rows.{IsRow, centre_in, bit_after as bit_aft
 
 use crate::columns::{Row, centre_at, columns_near, misses_row};
 use crate::segments::add_segment;
-use area_rows::row_bits;
 use board_base::{Point, centre};
 use plane_geom::near;
-use poly_area::Poly;
+use poly_area::{Poly, row_bits};
 use shape_parts::{Part, Piece};
 
 // What a part or an object makes of a bit.

@@ -9,14 +9,14 @@ ghost use Rattle.cell_grid.specs.Grid.{HasRows};
 ghost use Rattle.cell_grid.specs.Rows.{off_rows};
 ghost use Rattle.shape_parts.specs.Shapes.{shape_touches};
 ghost use Rattle.copper_cover.specs.Kept.{keeps, keeps_after};
-ghost use Rattle.copper_cover.specs.Windows.{IsInWindow, IsWindowOf};
+ghost use Rattle.cell_grid.specs.Windows.{IsInWindow, IsWindowOf};
 ghost use Rattle.copper_cover.specs.Rows.{AreWide};
 
-use crate::cells::{Window, clear, window_round};
+use crate::cells::{clear, window_round};
 use crate::columns::Row;
 use crate::rows::{bit_after, fill};
 use board_base::{centre, half_diagonal};
-use cell_grid::{Frame, Plane, RowBits, Workbench, cell_at};
+use cell_grid::{Frame, Plane, RowBits, Window, Workbench, cell_at};
 use shape_parts::Painted;
 
 // The row of cells from a cell of the frame on.

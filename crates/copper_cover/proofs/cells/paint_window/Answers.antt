@@ -7,7 +7,7 @@ use Rattle.board_base.specs.Places.{IsNearPlace}
 use Rattle.board_base.specs.Lattice.{centre_of}
 use Rattle.cell_grid.specs.declared.frames.Frame.{Frame}
 use Rattle.cell_grid.specs.Place.{InFrame, place_of, cells_of}
-use Rattle.copper_cover.specs.Windows.{IsWindowOf}
+use Rattle.cell_grid.specs.Windows.{IsWindowOf}
 use Rattle.copper_cover.proofs.Painting.{none_painted, one_painted, all_painted, painted_as, outside, rows_before, columns_before, columns_after, rows_after, its_frame, in_next}
 use Rattle.copper_cover.proofs.cells.paint_window.Goals as goal
 

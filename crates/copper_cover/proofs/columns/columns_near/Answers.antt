@@ -13,4 +13,4 @@ returns-clause-holds c k l n =
     let d : SFits w32 c.args.row.first.i = search rules in
     let e : SFits w32 c.reach-cells.result.i0 = search rules in
     let f : SFits w32 c.reach-cells.result.i1 = search rules in
-    in_box c.args.row k c.reach-cells.result c.columns_of.result ((simp to_z-of_z at c.reach-cells.ensures.holds) (east_of c.args.row.first k) n) (simp to_z-of_z at (c.columns_of.ensures.holds k l))
+    in_box c.args.row k c.reach-cells.result c.span_of.result ((simp to_z-of_z at c.reach-cells.ensures.holds) (east_of c.args.row.first k) n) (simp to_z-of_z at (c.span_of.ensures.holds k l))

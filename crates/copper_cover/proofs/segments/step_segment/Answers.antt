@@ -7,7 +7,7 @@ use Rattle.board_base.specs.declared.places.Point.{Point}
 use Rattle.board_base.specs.Near.{near_of}
 use Rattle.shape_parts.specs.declared.shape.Part.TheVariants.{Capsule}
 use Rattle.shape_parts.specs.Parts.{grown, part_touches, part_covers}
-use Rattle.copper_cover.specs.Windows.{IsInSpan}
+use Rattle.cell_grid.specs.Windows.{IsInSpan}
 use Rattle.copper_cover.specs.Rows.{centre_in, bit_after}
 use Rattle.copper_cover.proofs.RowLaws.{one_written, span_before, span_after, outside_span, far_touched, far_covered}
 use Rattle.copper_cover.proofs.segments.step_segment.Goals as goal

@@ -8,7 +8,7 @@ use Rattle.board_base.specs.Places.{IsNearPlace}
 use Rattle.board_base.specs.Lattice.{IsPitch, centre_of}
 use Rattle.shape_parts.specs.declared.shape.Piece.{Piece}
 use Rattle.shape_parts.specs.Shapes.{shape_touches, shape_covers}
-use Rattle.copper_cover.specs.Windows.{IsWindowOf}
+use Rattle.cell_grid.specs.Windows.{IsWindowOf}
 use Rattle.copper_cover.specs.Rows.{centre_in}
 use Rattle.copper_cover.proofs.Painting.{none_painted, one_painted, all_painted, painted_as, outside, rows_before, columns_before, columns_after, rows_after, its_frame, in_next}
 use Rattle.copper_cover.proofs.SweepLaws.{StartsAt, row_is, centre_is, by_bits}

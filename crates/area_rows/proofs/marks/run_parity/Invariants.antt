@@ -1,5 +1,0 @@
-use Rattle.area_rows.proofs.Running.{IsRunBelow}
-use Rattle.area_rows.proofs.marks.run_parity.Given as goal
-
-abbrev pub invariant-columns : goal.invariant-columns
-invariant-columns l = IsRunBelow l.fn.marks l.marks l.odd l.k

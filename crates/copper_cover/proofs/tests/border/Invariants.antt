@@ -1,6 +1,0 @@
-use Rattle.std.specs.List.{All}
-use Rattle.board_base.specs.Places.{IsPlace}
-use Rattle.copper_cover.proofs.tests.border.Given as goal
-
-abbrev pub invariant-points : goal.invariant-points
-invariant-points l = All IsPlace l.points.items
