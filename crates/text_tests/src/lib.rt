@@ -6,4 +6,8 @@
 #[cfg(test)]
 mod image;
 #[cfg(test)]
+mod jobs;
+#[cfg(test)]
 mod lexer;
+#[cfg(test)]
+mod sample_boards;
