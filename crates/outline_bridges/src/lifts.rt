@@ -1,9 +1,9 @@
 // Cuts along chains, lifted near bridges.
-ghost use Rattle.std.specs.Prelude.{◌≡◌, ◌++◌, ◌<◌, ℤ, pos, ◌≤ℤ◌, ◌-ℤ◌, length, IfOk, OnOk, int_lt, ◌&&◌};
+ghost use Rattle.std.specs.Prelude.{◌≡◌, ◌++◌, ◌<◌, ℤ, ◌-ℤ◌, length, IfOk, OnOk, int_lt, ◌&&◌};
 ghost use Rattle.std.specs.List.{All};
 ghost use Rattle.std.specs.Ordering.{int_eq};
 ghost use Rattle.board_base.specs.Lattice.{IsPitch};
-ghost use Rattle.board_base.specs.Places.{IsPlace, IsCoordinate};
+ghost use Rattle.board_base.specs.Places.{IsPlace, IsCoordinate, IsSpan};
 ghost use Rattle.outline_bridges.specs.Chains.{IsChain};
 ghost use Rattle.outline_bridges.specs.Steps.{steps_of, HasPlaces};
 ghost use Rattle.outline_bridges.specs.Corners.{corner_at, is_straight_on, corners_between, corners_of};
@@ -108,8 +108,7 @@ pub fn lift(
     requires chain { IsChain pitch chain.now }
     requires pitch { IsPitch pitch }
     requires bridges { All IsPlace bridges.now.items }
-    requires d_low { pos 0 ≤ℤ d }
-    requires d_high { d ≤ℤ pos 4000000000 }
+    requires d { IsSpan d }
     ensures { IfOk result (λ cut. cut ≡ corners_of (steps_of (record { level = level; lifted = lifted; d = d }) bridges.now.items pitch chain.now)) }
 {
     let l = Lifting { level, lifted, d };

@@ -1,9 +1,9 @@
 // Unit steps along a chain, and their heights.
-ghost use Rattle.std.specs.Prelude.{◌≡◌, ◌++◌, ◌<◌, ℤ, pos, ◌≤ℤ◌, ◌<ℤ◌, ◌+ℤ◌, ◌*ℤ◌, length, IfOk, OnOk, int_lt, true};
+ghost use Rattle.std.specs.Prelude.{◌≡◌, ◌++◌, ◌<◌, ℤ, pos, ◌<ℤ◌, ◌+ℤ◌, ◌*ℤ◌, length, IfOk, OnOk, int_lt, true};
 ghost use Rattle.std.specs.List.{All};
 ghost use Rattle.board_base.specs.Lattice.{IsPitch};
 ghost use Rattle.board_base.specs.Near.{near_of};
-ghost use Rattle.board_base.specs.Places.{IsPlace, IsCoordinate};
+ghost use Rattle.board_base.specs.Places.{IsPlace, IsCoordinate, IsSpan};
 ghost use Rattle.outline_bridges.specs.Chains.{IsChain, centres_of};
 ghost use Rattle.outline_bridges.specs.Steps.{is_near_bridge, height_of, step_of, steps_from, steps_along, steps_of, IsLifting, IsOutside, HasPlaces};
 
@@ -31,8 +31,7 @@ pub struct Lifting {
 fn is_past(from: i64, to: i64, d: i64) -> bool
     requires from { IsCoordinate from }
     requires to { IsCoordinate to }
-    requires d_low { pos 0 ≤ℤ d }
-    requires d_high { d ≤ℤ pos 4000000000 }
+    requires d { IsSpan d }
     ensures { result ≡ true → (pos 2 *ℤ from +ℤ d) <ℤ (pos 2 *ℤ to) }
 {
     2 * from + d < 2 * to
@@ -43,8 +42,7 @@ fn is_outside(c: i64, a: i64, b: i64, d: i64) -> bool
     requires c { IsCoordinate c }
     requires a { IsCoordinate a }
     requires b { IsCoordinate b }
-    requires d_low { pos 0 ≤ℤ d }
-    requires d_high { d ≤ℤ pos 4000000000 }
+    requires d { IsSpan d }
     ensures { result ≡ true → IsOutside c a b d }
 {
     if is_past(c, a, d) {
@@ -62,8 +60,7 @@ fn is_near(q: Point, u: Point, v: Point, d: i64) -> bool
     requires q { IsPlace q }
     requires u { IsPlace u }
     requires v { IsPlace v }
-    requires d_low { pos 0 ≤ℤ d }
-    requires d_high { d ≤ℤ pos 4000000000 }
+    requires d { IsSpan d }
     ensures { result ≡ near_of q u v d }
 {
     if is_outside(q.x, u.x, v.x, d) {
@@ -79,8 +76,7 @@ fn is_near(q: Point, u: Point, v: Point, d: i64) -> bool
 #[tactic(auto, unfolding(crate::specs::Steps::is_near_bridge))]
 fn near_bridge(bridges: &Vec<Point>, d: i64, u: Point, v: Point) -> bool
     requires bridges { All IsPlace bridges.now.items }
-    requires d_low { pos 0 ≤ℤ d }
-    requires d_high { d ≤ℤ pos 4000000000 }
+    requires d { IsSpan d }
     requires u { IsPlace u }
     requires v { IsPlace v }
     ensures { result ≡ is_near_bridge bridges.now.items d u v }
