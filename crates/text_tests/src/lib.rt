@@ -10,4 +10,10 @@ mod jobs;
 #[cfg(test)]
 mod lexer;
 #[cfg(test)]
+mod programs;
+#[cfg(test)]
+mod reading;
+#[cfg(test)]
+mod runs;
+#[cfg(test)]
 mod sample_boards;
