@@ -11,6 +11,7 @@ use Rattle.board_base.specs.declared.places.Point.{Point}
 use Rattle.board_base.specs.declared.places.Bounds.{Bounds}
 use Rattle.board_base.specs.declared.places.CellBox.{CellBox}
 use Rattle.board_base.specs.Lattice.{IsInBox, centre_of, half_diagonal_of}
+use Rattle.board_base.proofs.LatticeLaws.{diagonal_nonneg}
 use Rattle.cell_grid.specs.declared.frames.Frame.{Frame}
 use Rattle.cell_grid.specs.Grid.{Grid, IsSized}
 use Rattle.cell_grid.specs.Place.{IsFrame, InFrame, IsBetween, place_of, column_of, row_of, cells_of}
@@ -307,17 +308,13 @@ in_window f h b box w c holds e = let k = box_square f.pitch h b box c holds in 
 
 -- ---- one object
 
-half_in : (p : ℤ) → pos 0 ≤ℤ half_diagonal_of p
-unfolding half_diagonal_of
-half_in p = omega (arith, ints)
-
 -- an object changes no cell outside the window of the cells that it may touch
 pub outside : (f frame : Frame) (w : Window) (o : Painted) → frame ≡ f
     → ((c : Cell) → InFrame f c → shape_touches (centre_of f.pitch c) (half_diagonal_of f.pitch) o.shape ≡ true → IsInWindow f w c)
     → (c : Cell) → InFrame frame c → (IsInWindow frame w c → ⊥) → (b : Bool) → keeps_after f.pitch b o c ≡ b
 unfolding keeps_after
 outside f frame w o e round c i out b =
-    untouched (centre_of f.pitch c) (half_diagonal_of f.pitch) o (half_in f.pitch)
+    untouched (centre_of f.pitch c) (half_diagonal_of f.pitch) o (diagonal_nonneg f.pitch)
     (by_bool (shape_touches (centre_of f.pitch c) (half_diagonal_of f.pitch) o.shape)
     (λ t. absurd (out (subst (λ (z : Frame). IsInWindow z w c) (sym e) (round c (subst (λ (z : Frame). InFrame z c) e i) t)))) (λ n. n)) b
 
@@ -335,7 +332,7 @@ pub round_is : (f g : Frame) (b : Bounds) (h : ℤ) (w : Window) (o : Painted) �
     → ((c : Cell) → InFrame f c → IsInWindow f w c ↔ HasSquare b (centre_of f.pitch c) (pos 0 -ℤ h))
     → (c : Cell) → InFrame g c → shape_touches (centre_of g.pitch c) (half_diagonal_of g.pitch) o.shape ≡ true → IsInWindow g w c
 round_is f g b h w o e k s holds c i t =
-    let there : Has (shape_box o.shape) (centre_of g.pitch c) (pos 0 -ℤ half_diagonal_of g.pitch) = box_law_holds (centre_of g.pitch c) (half_diagonal_of g.pitch) o.shape (half_in g.pitch) t in
+    let there : Has (shape_box o.shape) (centre_of g.pitch c) (pos 0 -ℤ half_diagonal_of g.pitch) = box_law_holds (centre_of g.pitch c) (half_diagonal_of g.pitch) o.shape (diagonal_nonneg g.pitch) t in
     let square : Has (Some b) (centre_of g.pitch c) (pos 0 -ℤ half_diagonal_of g.pitch) = subst (λ (r : Option Bounds). Has r (centre_of g.pitch c) (pos 0 -ℤ half_diagonal_of g.pitch)) s there in
     let same : HasSquare b (centre_of g.pitch c) (pos 0 -ℤ h) = subst (λ (z : ℤ). HasSquare b (centre_of g.pitch c) (pos 0 -ℤ z)) (sym k) square in
     subst (λ (z : Frame). IsInWindow z w c) e ((holds c (subst (λ (z : Frame). InFrame z c) (sym e) i)).1 (subst (λ (z : Frame). HasSquare b (centre_of z.pitch c) (pos 0 -ℤ h)) (sym e) same))
@@ -344,9 +341,9 @@ round_is f g b h w o e k s holds c i t =
 pub none_is : (pitch : ℤ) (o : Painted) (c : Cell) (b : Bool) → shape_box o.shape ≡ None → b ≡ keeps_after pitch b o c
 unfolding keeps_after
 none_is pitch o c b e =
-    sym (untouched (centre_of pitch c) (half_diagonal_of pitch) o (half_in pitch)
+    sym (untouched (centre_of pitch c) (half_diagonal_of pitch) o (diagonal_nonneg pitch)
     (by_bool (shape_touches (centre_of pitch c) (half_diagonal_of pitch) o.shape)
-    (λ t. absurd (subst (λ (r : Option Bounds). Has r (centre_of pitch c) (pos 0 -ℤ half_diagonal_of pitch)) e (box_law_holds (centre_of pitch c) (half_diagonal_of pitch) o.shape (half_in pitch) t))) (λ n. n)) b)
+    (λ t. absurd (subst (λ (r : Option Bounds). Has r (centre_of pitch c) (pos 0 -ℤ half_diagonal_of pitch)) e (box_law_holds (centre_of pitch c) (half_diagonal_of pitch) o.shape (diagonal_nonneg pitch) t))) (λ n. n)) b)
 
 -- ---- all objects
 

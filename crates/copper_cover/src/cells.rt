@@ -2,7 +2,7 @@
 ghost use Rattle.std.specs.Prelude.{◌≡◌, ℤ, pos, ◌-ℤ◌, ◌≤ℤ◌, ◌<ℤ◌, ◌↔◌, true, false};
 ghost use Rattle.board_base.specs.declared.places.Cell.{Cell};
 ghost use Rattle.board_base.specs.Places.{IsNearPlace};
-ghost use Rattle.board_base.specs.Lattice.{IsPitch, centre_of, half_diagonal_of};
+ghost use Rattle.board_base.specs.Lattice.{IsPitch, centre_of, half_diagonal_of, IsCellReach};
 ghost use Rattle.cell_grid.specs.Place.{InFrame};
 ghost use Rattle.cell_grid.specs.Cells.{in_plane};
 ghost use Rattle.cell_grid.specs.Grid.{HasRows};
@@ -21,8 +21,7 @@ use shape_parts::Painted;
 pub(crate) fn window_round(frame: Frame, bounds: Bounds, h: i64) -> Window
     requires pitch { IsPitch frame.pitch }
     requires bounds { IsBounds bounds }
-    requires h_low { pos 0 <ℤ h }
-    requires h_high { h ≤ℤ pos 200000 }
+    requires reach { IsCellReach h }
     ensures holds { (c : Cell) → InFrame frame c → IsInWindow frame result c ↔ HasSquare bounds (centre_of frame.pitch c) (pos 0 -ℤ h) }
     ensures inside { IsWindowOf frame result }
 {
@@ -49,8 +48,7 @@ fn paint_window(bench: &mut Workbench, object: &Painted, h: i64, window: Window)
     requires pitch { IsPitch (bench.old).frame.pitch }
     requires centres { (c : Cell) → InFrame (bench.old).frame c → IsNearPlace (centre_of (bench.old).frame.pitch c) }
     requires h { h ≡ half_diagonal_of (bench.old).frame.pitch }
-    requires h_low { pos 0 <ℤ h }
-    requires h_high { h ≤ℤ pos 200000 }
+    requires reach { IsCellReach h }
     requires inside { IsWindowOf (bench.old).frame window }
     requires round { (c : Cell) → InFrame (bench.old).frame c
         → shape_touches (centre_of (bench.old).frame.pitch c) (half_diagonal_of (bench.old).frame.pitch) object.now.shape ≡ true → IsInWindow (bench.old).frame window c }
@@ -75,8 +73,7 @@ fn paint(bench: &mut Workbench, object: &Painted, h: i64)
     requires pitch { IsPitch (bench.old).frame.pitch }
     requires centres { (c : Cell) → InFrame (bench.old).frame c → IsNearPlace (centre_of (bench.old).frame.pitch c) }
     requires h { h ≡ half_diagonal_of (bench.old).frame.pitch }
-    requires h_low { pos 0 <ℤ h }
-    requires h_high { h ≤ℤ pos 200000 }
+    requires reach { IsCellReach h }
     ensures rest { bench.new ≡ record bench.old { kept = (bench.new).kept } }
     ensures kept { (c : Cell) → InFrame (bench.old).frame c
         → in_plane (bench.old).frame (bench.new).kept c

@@ -1,6 +1,6 @@
 // The columns of a row of cells. Lengths are in nanometres.
 ghost use Rattle.std.specs.Prelude.{◌≡◌, ℕ, ℤ, pos, ◌≤ℤ◌, ◌<◌, ◌≤◌, unsigned_abs, true};
-ghost use Rattle.board_base.specs.Places.{IsNearPlace, IsNearCoordinate};
+ghost use Rattle.board_base.specs.Places.{IsNearPlace, IsNearCoordinate, IsSpan};
 ghost use Rattle.board_base.specs.Near.{near_of};
 ghost use Rattle.cell_grid.specs.Windows.{IsInSpan};
 ghost use Rattle.copper_cover.specs.Rows.{east_of, is_over as is_over_of, is_under as is_under_of, misses, IsRow, centre_in};
@@ -47,8 +47,7 @@ pub(crate) fn centre_at(row: Row, k: u32, n: u32) -> Point
 fn is_over(y: i64, d: i64, a: i64) -> bool
     requires y { IsNearCoordinate y }
     requires a { IsNearCoordinate a }
-    requires d_low { pos 0 ≤ℤ d }
-    requires d_high { d ≤ℤ pos 4000000000 }
+    requires d { IsSpan d }
     ensures { result ≡ is_over_of y d a }
 {
     2 * y + d < 2 * a
@@ -59,8 +58,7 @@ fn is_over(y: i64, d: i64, a: i64) -> bool
 fn is_under(y: i64, d: i64, a: i64) -> bool
     requires y { IsNearCoordinate y }
     requires a { IsNearCoordinate a }
-    requires d_low { pos 0 ≤ℤ d }
-    requires d_high { d ≤ℤ pos 4000000000 }
+    requires d { IsSpan d }
     ensures { result ≡ is_under_of y d a }
 {
     2 * a < 2 * y - d
@@ -71,8 +69,7 @@ pub(crate) fn misses_row(y: i64, d: i64, a: i64, b: i64) -> bool
     requires y { IsNearCoordinate y }
     requires a { IsNearCoordinate a }
     requires b { IsNearCoordinate b }
-    requires d_low { pos 0 ≤ℤ d }
-    requires d_high { d ≤ℤ pos 4000000000 }
+    requires d { IsSpan d }
     ensures { result ≡ misses y d a b }
 {
     if is_over(y, d, a) {
@@ -88,8 +85,7 @@ pub(crate) fn misses_row(y: i64, d: i64, a: i64, b: i64) -> bool
 pub(crate) fn columns_near(a: Point, b: Point, d: i64, row: Row, n: u32) -> Span
     requires a { IsNearPlace a }
     requires b { IsNearPlace b }
-    requires d_low { pos 0 ≤ℤ d }
-    requires d_high { d ≤ℤ pos 4000000000 }
+    requires d { IsSpan d }
     requires row { IsRow row n }
     ensures holds { (k : ℕ) → k < n → near_of (centre_in row k) a b d ≡ true → IsInSpan result k }
     ensures from { result.from ≤ n }

@@ -1,5 +1,6 @@
 // What painted objects make of one cell, and the rectangle round what is dark.
 ghost use Rattle.std.specs.Prelude.{◌≡◌, ℤ, pos, ◌≤ℤ◌, ◌<ℤ◌, Bool, not, ◌&&◌, ◌||◌, Option};
+ghost use Rattle.board_base.specs.Lattice.{IsCellReach};
 ghost use Rattle.board_base.specs.Places.{IsNearPlace};
 ghost use Rattle.shape_parts.specs.Boxes.{hull as hull_of, AreBounds};
 ghost use Rattle.shape_parts.specs.Cover.{is_kept as is_kept_of};
@@ -11,8 +12,7 @@ use shape_parts::{Painted, hull};
 // What an object makes of a cell: the centre is `c` and half its diagonal `h`.
 pub(crate) fn kept_after(kept: bool, object: &Painted, c: Point, h: i64) -> bool
     requires c { IsNearPlace c }
-    requires h_low { pos 0 <ℤ h }
-    requires h_high { h ≤ℤ pos 200000 }
+    requires reach { IsCellReach h }
     ensures { result ≡ kept_after_of c h kept object.now }
 {
     if object.dark {
@@ -32,8 +32,7 @@ pub(crate) fn kept_after(kept: bool, object: &Painted, c: Point, h: i64) -> bool
 /// object covers it. Lengths are in nanometres.
 pub fn is_kept(painted: &Vec<Painted>, c: Point, h: i64) -> bool
     requires c { IsNearPlace c }
-    requires h_low { pos 0 <ℤ h }
-    requires h_high { h ≤ℤ pos 200000 }
+    requires reach { IsCellReach h }
     ensures { result ≡ is_kept_of c h painted.now.items }
 {
     let mut kept = false;

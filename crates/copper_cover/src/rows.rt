@@ -1,7 +1,8 @@
 // The bits of a row of cells: which cells a shape touches, and which it covers. Lengths are in nanometres.
 ghost use Rattle.std.specs.Prelude.{◌≡◌, ℕ, ℤ, pos, ◌≤ℤ◌, ◌<ℤ◌, ◌<◌, false, not, ◌&&◌, ◌||◌, length, replicate, slice_index_or};
 ghost use Rattle.std.specs.List.{All};
-ghost use Rattle.board_base.specs.Places.{IsNearPlace};
+ghost use Rattle.board_base.specs.Lattice.{IsCellReach};
+ghost use Rattle.board_base.specs.Places.{IsNearPlace, IsSpan};
 ghost use Rattle.board_base.specs.Near.{near_of};
 ghost use Rattle.poly_area.specs.Area.{edges_of, edge_at, is_near, area_near, area_holds};
 ghost use Rattle.shape_parts.specs.declared.shape.Part.TheVariants.{Area};
@@ -32,8 +33,7 @@ pub(crate) fn bit_after(on: bool, adds: bool, takes: bool, bit: bool) -> bool
 // Twice the reach of a cell.
 #[tactic(auto, unfolding(shape_parts::specs::Parts::twice))]
 pub(crate) fn double(h: i64) -> i64
-    requires h_low { pos 0 <ℤ h }
-    requires h_high { h ≤ℤ pos 200000 }
+    requires reach { IsCellReach h }
     ensures value { result ≡ twice h }
     ensures low { pos 0 <ℤ result }
     ensures high { result ≤ℤ pos 400000 }
@@ -53,8 +53,7 @@ fn near_or(bit: bool, q: Point, a: Point, b: Point, d: i64) -> bool
     requires q { IsNearPlace q }
     requires a { IsNearPlace a }
     requires b { IsNearPlace b }
-    requires d_low { pos 0 ≤ℤ d }
-    requires d_high { d ≤ℤ pos 4000000000 }
+    requires d { IsSpan d }
     ensures { result ≡ (bit || near_of q a b d) }
 {
     if bit { true } else { near(q, a, b, d) }
@@ -64,8 +63,7 @@ fn near_or(bit: bool, q: Point, a: Point, b: Point, d: i64) -> bool
 fn mark_near(bits: &mut [bool], a: Point, b: Point, d: i64, row: Row)
     requires a { IsNearPlace a }
     requires b { IsNearPlace b }
-    requires d_low { pos 0 ≤ℤ d }
-    requires d_high { d ≤ℤ pos 4000000000 }
+    requires d { IsSpan d }
     requires row { IsRow row (length bits.old) }
     ensures { (k : ℕ) → k < length bits.new
         → slice_index_or bits.new k false ≡ (slice_index_or bits.old k false || near_of (centre_in row k) a b d) }
@@ -82,8 +80,7 @@ fn mark_near(bits: &mut [bool], a: Point, b: Point, d: i64, row: Row)
 // Turns the bits on whose centres are near an edge.
 fn mark_edge(bits: &mut [bool], poly: &Poly, edge: u32, d: i64, row: Row)
     requires edge { edge < length (edges_of poly.now) }
-    requires d_low { pos 0 ≤ℤ d }
-    requires d_high { d ≤ℤ pos 4000000000 }
+    requires d { IsSpan d }
     requires row { IsRow row (length bits.old) }
     ensures { (k : ℕ) → k < length bits.new
         → slice_index_or bits.new k false ≡ (slice_index_or bits.old k false || is_near (centre_in row k) d (edge_at poly.now edge)) }
@@ -97,8 +94,7 @@ fn mark_edge(bits: &mut [bool], poly: &Poly, edge: u32, d: i64, row: Row)
 
 // Which centres are near an edge of an area, over whatever stood in the bits.
 fn near_row(bits: &mut [bool], poly: &Poly, d: i64, row: Row)
-    requires d_low { pos 0 ≤ℤ d }
-    requires d_high { d ≤ℤ pos 4000000000 }
+    requires d { IsSpan d }
     requires row { IsRow row (length bits.old) }
     ensures { (k : ℕ) → k < length bits.new → slice_index_or bits.new k false ≡ area_near (centre_in row k) d poly.now }
 {

@@ -1,6 +1,7 @@
 // What a disc or a capsule, as a segment of some width, makes of the bits of a row. Lengths are in
 // nanometres.
 ghost use Rattle.std.specs.Prelude.{◌≡◌, ℕ, ℤ, pos, ◌≤ℤ◌, ◌<ℤ◌, ◌<◌, false, int_lt, length, slice_index_or};
+ghost use Rattle.board_base.specs.Lattice.{IsCellReach};
 ghost use Rattle.board_base.specs.Places.{IsNearPlace};
 ghost use Rattle.shape_parts.specs.declared.shape.Part.TheVariants.{Capsule};
 ghost use Rattle.shape_parts.specs.Parts.{IsWidth, grown, shrunk, twice, part_touches, part_covers};
@@ -22,8 +23,7 @@ fn is_below(a: i64, b: i64) -> bool
 #[tactic(auto, unfolding(shape_parts::specs::Parts::grown))]
 fn wider(d: i64, h: i64) -> i64
     requires d { IsWidth d }
-    requires h_low { pos 0 <ℤ h }
-    requires h_high { h ≤ℤ pos 200000 }
+    requires reach { IsCellReach h }
     ensures value { result ≡ grown d h }
     ensures low { pos 0 <ℤ result }
     ensures high { result ≤ℤ pos 1000400000 }
@@ -35,8 +35,7 @@ fn wider(d: i64, h: i64) -> i64
 #[tactic(auto, unfolding(shape_parts::specs::Parts::shrunk, shape_parts::specs::Parts::twice))]
 fn narrower(d: i64, h: i64) -> i64
     requires d { IsWidth d }
-    requires h_low { pos 0 <ℤ h }
-    requires h_high { h ≤ℤ pos 200000 }
+    requires reach { IsCellReach h }
     requires wide { twice h <ℤ d }
     ensures value { result ≡ shrunk d h }
     ensures low { pos 0 ≤ℤ result }
@@ -51,8 +50,7 @@ fn segment_touches(q: Point, h: i64, a: Point, b: Point, d: i64) -> bool
     requires a { IsNearPlace a }
     requires b { IsNearPlace b }
     requires d { IsWidth d }
-    requires h_low { pos 0 <ℤ h }
-    requires h_high { h ≤ℤ pos 200000 }
+    requires reach { IsCellReach h }
     ensures { result ≡ part_touches q h (Capsule a b d) }
 {
     if is_below(0, d) {
@@ -68,8 +66,7 @@ fn segment_covers(q: Point, h: i64, a: Point, b: Point, d: i64) -> bool
     requires a { IsNearPlace a }
     requires b { IsNearPlace b }
     requires d { IsWidth d }
-    requires h_low { pos 0 <ℤ h }
-    requires h_high { h ≤ℤ pos 200000 }
+    requires reach { IsCellReach h }
     ensures { result ≡ part_covers q h (Capsule a b d) }
 {
     if is_below(double(h), d) {

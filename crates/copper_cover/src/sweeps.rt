@@ -2,7 +2,7 @@
 ghost use Rattle.std.specs.Prelude.{◌≡◌, ℤ, pos, ◌+ℤ◌, ◌≤ℤ◌, ◌<ℤ◌, ◌<◌, ◌+◌, true, false, length, replicate};
 ghost use Rattle.board_base.specs.declared.places.Cell.{Cell};
 ghost use Rattle.board_base.specs.Places.{IsNearPlace};
-ghost use Rattle.board_base.specs.Lattice.{IsPitch, centre_of, middle, half_diagonal_of};
+ghost use Rattle.board_base.specs.Lattice.{IsPitch, centre_of, middle, half_diagonal_of, IsCellReach};
 ghost use Rattle.cell_grid.specs.Place.{IsFrame, InFrame};
 ghost use Rattle.cell_grid.specs.Cells.{in_plane};
 ghost use Rattle.cell_grid.specs.Grid.{HasRows};
@@ -56,8 +56,7 @@ fn sweep_window(
     requires pitch { IsPitch (bench.old).frame.pitch }
     requires centres { (c : Cell) → InFrame (bench.old).frame c → IsNearPlace (centre_of (bench.old).frame.pitch c) }
     requires h { h ≡ half_diagonal_of (bench.old).frame.pitch }
-    requires h_low { pos 0 <ℤ h }
-    requires h_high { h ≤ℤ pos 200000 }
+    requires reach { IsCellReach h }
     requires inside { IsWindowOf (bench.old).frame window }
     requires round { (c : Cell) → InFrame (bench.old).frame c
         → shape_touches (centre_of (bench.old).frame.pitch c) (half_diagonal_of (bench.old).frame.pitch) object.now.shape ≡ true → IsInWindow (bench.old).frame window c }
@@ -99,8 +98,7 @@ fn sweep(
     requires pitch { IsPitch (bench.old).frame.pitch }
     requires centres { (c : Cell) → InFrame (bench.old).frame c → IsNearPlace (centre_of (bench.old).frame.pitch c) }
     requires h { h ≡ half_diagonal_of (bench.old).frame.pitch }
-    requires h_low { pos 0 <ℤ h }
-    requires h_high { h ≤ℤ pos 200000 }
+    requires reach { IsCellReach h }
     requires inside { IsWindowOf (bench.old).frame window }
     requires round { (c : Cell) → InFrame (bench.old).frame c
         → shape_touches (centre_of (bench.old).frame.pitch c) (half_diagonal_of (bench.old).frame.pitch) object.now.shape ≡ true → IsInWindow (bench.old).frame window c }
@@ -133,8 +131,7 @@ fn paint(bench: &mut Workbench, object: &Painted, h: i64, rows: &mut RowBits)
     requires pitch { IsPitch (bench.old).frame.pitch }
     requires centres { (c : Cell) → InFrame (bench.old).frame c → IsNearPlace (centre_of (bench.old).frame.pitch c) }
     requires h { h ≡ half_diagonal_of (bench.old).frame.pitch }
-    requires h_low { pos 0 <ℤ h }
-    requires h_high { h ≤ℤ pos 200000 }
+    requires reach { IsCellReach h }
     requires wide { AreWide rows.old (bench.old).frame.width }
     ensures rest { bench.new ≡ record bench.old { kept = (bench.new).kept } }
     ensures kept { (c : Cell) → InFrame (bench.old).frame c

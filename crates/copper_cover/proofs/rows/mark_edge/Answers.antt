@@ -23,7 +23,7 @@ returns-then-misses_row c k l =
     let f4 : SFits w64 c.edge.result.1.y = search rules in
     let e = edge_at c.args.poly.now c.args.edge in
     let m : misses c.args.row.y c.args.d c.edge.result.0.y c.edge.result.1.y ≡ true = sym (simp to_z-of_z at c.misses_row.ensures) ∙ c.if-misses_row.true in
-    let far = missed (centre_in c.args.row k) c.edge.result.0 c.edge.result.1 c.args.row.y c.args.d (at_height c.args.row _ k c.requires.row) c.requires.d_low m in
+    let far = missed (centre_in c.args.row k) c.edge.result.0 c.edge.result.1 c.args.row.y c.args.d (at_height c.args.row _ k c.requires.row) c.requires.d.low m in
     sym (unmarked _ _
     (ap (λ (p : Point). near_of (centre_in c.args.row k) p e.to c.args.d) (sym c.edge.ensures.from)
     ∙ ap (λ (p : Point). near_of (centre_in c.args.row k) c.edge.result.0 p c.args.d) (sym c.edge.ensures.to) ∙ far))

@@ -35,7 +35,7 @@ fill-requires-clause-row c =
     let wide : c.args.window.columns.from + length c.rows.touched ≤ f.width = omega (arith, c.rows.auto.touched, c.requires.touched, inside.east) in
     let high : c.rows.y < f.height = omega (arith, c.rows-test.true, inside.north) in
     row_is f c.args.window.columns.from c.rows.y (length c.rows.touched) c.args.h c.row_from-row.result s c.frame-frame.ensures.valid (subst (λ (z : Frame). IsPitch z.pitch) (sym same) c.requires.pitch) some wide high
-    c.requires.h_low c.requires.h_high (λ d i. subst (λ (z : Frame). IsNearPlace (centre_of z.pitch d)) (sym same) (c.requires.centres d (subst (λ (z : Frame). InFrame z d) same i)))
+    c.requires.reach.low c.requires.reach.high (λ d i. subst (λ (z : Frame). IsNearPlace (centre_of z.pitch d)) (sym same) (c.requires.centres d (subst (λ (z : Frame). InFrame z d) same i)))
 
 pub cells-init : goal.cells-init
 cells-init c =
