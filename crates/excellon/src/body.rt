@@ -8,8 +8,8 @@ ghost use Rattle.excellon.specs.Body.{body_words, field as field_of, some_of as 
 use crate::header::{format, header};
 use crate::line::{Coordinate, Pair, Part, Said, Unit, Way, Word};
 use crate::numerals::{coordinate, number_before, tool_number};
-use text_cut::after;
 use crate::words::{is, is_blank, is_left_out, start};
+use text_cut::after;
 
 // A unit alone.
 fn lone_unit(text: &[u8]) -> Option<Said>

@@ -11,8 +11,8 @@ ghost use Rattle.excellon.specs.Header.{header_words, is_count as is_count_of, c
 
 use crate::line::{Format, Said, Unit};
 use crate::numerals::{decimal, is_number_byte, number_before, tool_number};
-use text_cut::{after, split_once};
 use crate::words::{is, is_left_out};
+use text_cut::{after, split_once};
 
 // A word without effect.
 fn is_ignored(text: &[u8]) -> bool
