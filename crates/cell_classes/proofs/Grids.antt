@@ -1,5 +1,5 @@
 -- What is carried from one grid to another where only the numbers and the queue change.
-use Rattle.std.proofs.Common.{◌≡◌, ℕ, ◌+◌, ◌<◌, Bool, true, false, List, [], ◌∷◌, ◌++◌, length, set, get_or, slice_index, refl, sym, ap, subst, ◌∙◌, arith, inl, inr, get_or-set_same, get_or-set_other}
+use Rattle.std.proofs.Common.{◌≡◌, ℕ, zero, suc, replicate, ◌+◌, ◌<◌, Bool, true, false, List, [], ◌∷◌, ◌++◌, length, set, get_or, slice_index, refl, sym, ap, subst, ◌∙◌, arith, inl, inr, get_or-set_same, get_or-set_other}
 use Rattle.std.proofs.lemmas.List.{length-set, get_or_past}
 use Rattle.std.proofs.lemmas.Bool.{cases_eq, cases_lt}
 use Rattle.board_base.specs.declared.places.Cell.{Cell}
@@ -38,45 +38,15 @@ module _ (on : Bool) (p : Plane) (P : Frame → (Cell → Bool) → Type 0) wher
       subst (λ (test : Cell → Bool). P g.frame test) (taken_as on h.frame g h p (same_frames g h a) a)
       (subst (λ (f : Frame). P f (is_taken on h.frame (plane_of h p))) (same_frames g h a) q)
 
--- the places before n have no number
-pub record IsClearBelow (start : Grid) (frame : Frame) (g : Grid) (n : ℕ) : Type 0 where
-  pub rest : ChangesNumbers start g
-  pub same_frame : frame ≡ start.frame
-  pub valid : IsFrame frame
-  pub len : length g.works ≡ cells_of frame
-  pub done : (k : ℕ) → k < n → slice_index g.works k ≡ 0
-
-pub none_clear : (start : Grid) (frame : Frame) (n : ℕ) → n ≡ 0 → frame ≡ start.frame → IsFrame frame → length start.works ≡ cells_of start.frame → IsClearBelow start frame start n
-none_clear start frame n z e valid len = record { rest = refl; same_frame = e; valid = valid; len = len ∙ ap cells_of (sym e); done = λ k l. absurd (omega (arith, l, z)) }
-
-pub one_clear : (start : Grid) (frame : Frame) (g g' : Grid) (n n' : ℕ) (c : Cell) → IsClearBelow start frame g n → InFrame frame c → place_of frame c ≡ n → n' ≡ n + 1
-    → g' ≡ record g { works = set g.works (place_of g.frame c) 0 } → IsClearBelow start frame g' n'
-one_clear start frame g g' n n' c q c_in at_n next written =
-    subst (λ (m : ℕ). IsClearBelow start frame g' m) (sym next) (subst (λ (h : Grid). IsClearBelow start frame h (n + 1)) (sym (written ∙ spot)) (record {
-      rest = ap (λ (h : Grid). record h { works = set g.works n 0 }) q.rest;
-      same_frame = q.same_frame;
-      valid = q.valid;
-      len = simp length-set q.len;
-      done = λ k l. elim (cases_eq k n) as (λ _. get_or (set g.works n 0) k 0 ≡ 0) [
-        | inl e ↦ ap (λ (x : ℕ). get_or (set g.works n 0) x 0) e ∙ get_or-set_same g.works n 0 0 n_in
-        | inr ne ↦ get_or-set_other g.works n k 0 0 ne ∙ q.done k (omega arith)
-      ];
-    }))
+-- a grid whose numbers are taken away
+pub numbers_cleared : (g h : Grid) → h ≡ record g { works = replicate (cells_of g.frame) 0 } → ChangesNumbers g h × ((k : ℕ) → slice_index h.works k ≡ 0)
+numbers_cleared g h e = (subst (λ (x : Grid). ChangesNumbers g x) (sym e) refl, subst (λ (x : Grid). (k : ℕ) → slice_index x.works k ≡ 0) (sym e) (zero_at (cells_of g.frame)))
   where
-    spot : ◌≡◌ {A = Grid} (record g { works = set g.works (place_of g.frame c) 0 }) (record g { works = set g.works n 0 })
-    spot = ap (λ (m : ℕ). record g { works = set g.works m 0 }) (ap (λ (f : Frame). place_of f c) (same_frames start g q.rest ∙ sym q.same_frame) ∙ at_n)
+    zero_at : (n k : ℕ) → slice_index (replicate n 0) k ≡ 0
+    zero_at zero k = refl
+    zero_at (suc n) zero = refl
+    zero_at (suc n) (suc k) = zero_at n k
 
-    n_in : n < length g.works
-    n_in = let l = place_below frame c c_in in omega (arith, l, q.len, at_n)
-
-pub clear_same : (start : Grid) (frame : Frame) (g : Grid) (n n' : ℕ) → n' ≡ n → IsClearBelow start frame g n → IsClearBelow start frame g n'
-clear_same start frame g n n' e q = subst (λ (m : ℕ). IsClearBelow start frame g m) (sym e) q
-
-pub all_clear : (start : Grid) (frame : Frame) (g : Grid) (n : ℕ) → IsClearBelow start frame g n → n ≡ cells_of frame → (k : ℕ) → slice_index g.works k ≡ 0
-all_clear start frame g n q e k =
-    elim (cases_lt k n) as (λ _. slice_index g.works k ≡ 0) [ inl l ↦ q.done k l | inr past ↦ get_or_past g.works k 0 (omega (arith, past, e, q.len)) ]
-
--- where no place has a number, none is begun
 pub clear_begun : (f : Frame) (taken : Cell → Bool) (works : List ℕ) → ((k : ℕ) → slice_index works k ≡ 0) → IsBegun f taken 0 works
 clear_begun f taken works z =
     let zero_at : (a : Cell) → number_in f 0 works a ≡ 0 = number_all (λ x. x ≡ 0) f 0 works refl z in

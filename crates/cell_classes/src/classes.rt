@@ -13,19 +13,6 @@ ghost use Rattle.cell_classes.specs.Classes.{IsBegun, IsEdge, IsNumbered, IsSeed
 use crate::floods::{flood, flood_from, is_open, put};
 use cell_grid::{Frame, Plane, Workbench, cell_at};
 
-// Takes all numbers away.
-fn clear_works(bench: &mut Workbench)
-    ensures rest { ChangesNumbers bench.old bench.new }
-    ensures clear { (k : ℕ) → slice_index (bench.new).works k ≡ 0 }
-{
-    let frame = bench.frame();
-    'rows: for y in 0..frame.height {
-        'cells: for x in 0..frame.width {
-            bench.set_work(cell_at(frame, x, y), 0);
-        }
-    }
-}
-
 // The number of all cells outside the frame.
 fn outer(on: bool) -> u32
     ensures { result ≡ outer_number on }
@@ -61,7 +48,7 @@ pub fn number_classes(bench: &mut Workbench, plane: Plane) -> u32
     ensures islands { AreIslands (in_plane bench.old.frame (plane_of bench.old plane)) (number_in bench.old.frame 0 (bench.new).works) result }
     ensures most { result ≤ cells_of bench.old.frame }
 {
-    clear_works(bench);
+    bench.clear_works();
     number_from(bench, plane, true)
 }
 
@@ -105,7 +92,7 @@ pub fn number_rest(bench: &mut Workbench, plane: Plane) -> u32
     ensures present { (u : ℕ) → 1 < u → u ≤ result → (b : Cell) × (number_in bench.old.frame 1 (bench.new).works b ≡ u) }
     ensures most { result ≤ cells_of bench.old.frame + 1 }
 {
-    clear_works(bench);
+    bench.clear_works();
     seed_border(bench, plane);
     flood(bench, plane, false, 1);
     number_from(bench, plane, false)

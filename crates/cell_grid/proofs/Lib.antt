@@ -4,3 +4,5 @@ pub mod QueueLaws
 pub mod BoxLaws
 pub mod WindowLaws
 pub mod CellsLaws
+pub mod ListLaws
+pub mod Copying

@@ -83,7 +83,7 @@ step_to a q n e =
     add_le a b c d h k = omega (arith, sum_is_lem, le_out, at_most_in)
 
 at_goal : (a q : Cell) → steps_between a q ≡ 0 → a ≡ q
-at_goal a q e = same_cell a q (equal a.i q.i (first (nat_abs (a.i -ℤ q.i)) (nat_abs (a.j -ℤ q.j)) e)) (equal a.j q.j (second (nat_abs (a.i -ℤ q.i)) (nat_abs (a.j -ℤ q.j)) e))
+at_goal a q e = same_cell a.i a.j q.i q.j (equal a.i q.i (first (nat_abs (a.i -ℤ q.i)) (nat_abs (a.j -ℤ q.j)) e)) (equal a.j q.j (second (nat_abs (a.i -ℤ q.i)) (nat_abs (a.j -ℤ q.j)) e))
   where
     first : (m n : ℕ) → m + n ≡ 0 → m ≡ 0
     first m n e = omega arith

@@ -1,13 +1,12 @@
 -- How many cells there are of a kind.
-use Rattle.std.specs.Prelude.{◌≡◌, ◌↔◌, ℕ, List, [], ◌∷◌, length}
-use Rattle.std.specs.List.{All, Contains}
+use Rattle.std.specs.Prelude.{◌≡◌, ◌↔◌, ℕ, List, length}
+use Rattle.std.specs.List.{AllPairs, Contains}
 use Rattle.board_base.specs.declared.places.Cell.{Cell}
 use Rattle.cell_sets.specs.Chains.{IsBefore}
 
 -- each cell stands before all later ones in the order of rows, so none stands twice
 abbrev pub IsInRows : List Cell → Type 0
-IsInRows [] = Unit {0}
-IsInRows (c ∷ cells) = All (IsBefore c) cells × IsInRows cells
+IsInRows cells = AllPairs IsBefore cells
 
 -- the list has the cells of this kind and no others, each once, in the order of rows
 pub record IsListOf (P : Cell → Type 0) (cells : List Cell) : Type 0 where

@@ -5,6 +5,7 @@ use Rattle.std.proofs.lemmas.Nat.{mod-mul-add, div-mul-add}
 use borrow.Author.Differences.{ints}
 use Rattle.board_base.specs.declared.places.Cell.{Cell}
 use Rattle.board_base.specs.Lattice.{dist2}
+use Rattle.cell_grid.proofs.PlaceLaws.{column_below, row_below}
 use Rattle.cell_grid.specs.declared.frames.Frame.{Frame}
 use Rattle.cell_grid.specs.Place.{InFrame, IsBetween, place_of, row_of, column_of, cells_of, cell_of_place}
 use Rattle.cell_grid.specs.Cells.{in_frame, in_plane, number_in}
@@ -45,25 +46,19 @@ square_of_cells f c k h l =
       pos_sum (square_gap (column_of f c) (column_of f k)) (square_gap (row_of f c) (row_of f k)),
     )
 
-pub column_in : (f : Frame) (c : Cell) → InFrame f c → column_of f c < f.width
-column_in f c h = omega (arith, ints)
-
-pub row_in : (f : Frame) (c : Cell) → InFrame f c → row_of f c < f.height
-row_in f c h = omega (arith, ints)
-
 -- the column and the row of a cell, by its place
 pub column_at_place : (f : Frame) (c : Cell) → InFrame f c → place_of f c % f.width ≡ column_of f c
 unfolding place_of
-column_at_place f c h = mod-mul-add (row_of f c) f.width (column_of f c) (column_in f c h)
+column_at_place f c h = mod-mul-add (row_of f c) f.width (column_of f c) (column_below f c h)
 
 pub row_at_place : (f : Frame) (c : Cell) → InFrame f c → place_of f c / f.width ≡ row_of f c
 unfolding place_of
-row_at_place f c h = div-mul-add (row_of f c) f.width (column_of f c) (column_in f c h)
+row_at_place f c h = div-mul-add (row_of f c) f.width (column_of f c) (column_below f c h)
 
 square_to_cell : (f : Frame) (c k : Cell) (n : ℕ) → InFrame f c → InFrame f k → n ≡ place_of f k → dist2 c k ≡ pos (square_to_place f.width (column_of f c) (row_of f c) n)
 unfolding place_of
 square_to_cell f c k n h l e =
-    square_of_cells f c k h l ∙ ap pos (sym (square_to f.width (column_of f c) (row_of f c) (column_of f k) (row_of f k) n (column_in f k l) e))
+    square_of_cells f c k h l ∙ ap pos (sym (square_to f.width (column_of f c) (row_of f c) (column_of f k) (row_of f k) n (column_below f k l) e))
 
 never_both : {b : Bool} → b ≡ true → b ≡ false → ⊥
 never_both p q = cc

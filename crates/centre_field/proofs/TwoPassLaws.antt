@@ -14,7 +14,8 @@ use Rattle.centre_field.specs.Rows.{value_at, AreDistances, IsLeastInRow, AreLea
 use Rattle.centre_field.proofs.LeastLaws.{square_to}
 use Rattle.centre_field.proofs.ListingLaws.{some_distance}
 use Rattle.centre_field.proofs.RowLaws.{is_none}
-use Rattle.centre_field.proofs.FieldLaws.{field_is_clearance, column_in, row_in}
+use Rattle.centre_field.proofs.FieldLaws.{field_is_clearance}
+use Rattle.cell_grid.proofs.PlaceLaws.{column_below, row_below}
 
 -- distances along columns are below 32,768
 nearest_short : (g : Grid) (x y h v : ℕ) → h ≤ 32768 → y < h → IsNearest g x y h v → (v ≡ none) ⊎ (v < 32768)
@@ -139,8 +140,8 @@ two_passes g0 g1 g2 few e columns d rows c c_in =
     let width : g1.frame.width ≡ f.width = ap (λ (h : Grid). h.frame.width) e in
     let height : g1.frame.height ≡ f.height = ap (λ (h : Grid). h.frame.height) e in
     let widths : g2.frame.width ≡ f.width = ap (λ (h : Grid). h.frame.width) d ∙ width in
-    let x_in = column_in f c c_in in
-    let y_in = row_in f c c_in in
+    let x_in = column_below f c c_in in
+    let y_in = row_below f c c_in in
     field_is_clearance f g0.kept g2.clearances c c_in
     (subst (λ (w : ℕ). IsLeastSquare g0 x y (get_or g2.clearances (y * w + x) 0)) widths
     (least_square g0 g1 x y (number_at g2 x y) few e columns y_in (rows x y (omega arith) (omega arith))))

@@ -1,43 +1,15 @@
 // The numbers of islands as labels.
 ghost use Rattle.std.specs.Prelude.{◌≡◌, ◌≤◌, replicate, IfOk, IfErr};
-ghost use Rattle.board_base.specs.declared.places.Cell.{Cell};
 ghost use Rattle.cell_grid.specs.Place.{cells_of};
 ghost use Rattle.cell_grid.specs.Cells.{in_plane, number_in};
 ghost use Rattle.cell_sets.specs.Islands.{AreIslands, AreMoreIslands};
 
 use cell_classes::number_classes;
-use cell_grid::{Plane, Workbench, cell_at};
+use cell_grid::{Plane, Workbench};
 
 /// There are more than 65,535 islands.
 #[derive(Clone, Copy, Debug, PartialEq, Eq)]
 pub struct TooManyIslands;
-
-// Makes the working labels the labels.
-fn copy_works(bench: &mut Workbench)
-    requires { (c : Cell) → number_in bench.old.frame 0 bench.old.works c ≤ 65535 }
-    ensures { bench.new ≡ record bench.old { labels = bench.old.works } }
-{
-    let frame = bench.frame();
-    'rows: for y in 0..frame.height {
-        'cells: for x in 0..frame.width {
-            let c = cell_at(frame, x, y);
-            let number = bench.work(c);
-            bench.set_label(c, number as u16);
-        }
-    }
-}
-
-// Takes all labels away.
-fn clear_labels(bench: &mut Workbench)
-    ensures { bench.new ≡ record bench.old { labels = replicate (cells_of bench.old.frame) 0 } }
-{
-    let frame = bench.frame();
-    'rows: for y in 0..frame.height {
-        'cells: for x in 0..frame.width {
-            bench.set_label(cell_at(frame, x, y), 0);
-        }
-    }
-}
 
 /// Sets the labels to the numbers of the islands of kept cells, from 1 on, in the order of their first
 /// cells, and gives their count; all other cells have the label 0. `TooManyIslands` exactly where there
@@ -56,9 +28,9 @@ pub fn label(bench: &mut Workbench) -> Result<u32, TooManyIslands>
 {
     let count = number_classes(bench, Plane::Kept);
     if 65_535 < count {
-        clear_labels(bench);
+        bench.clear_labels();
         return Err(TooManyIslands);
     }
-    copy_works(bench);
+    bench.labels_from_works();
     Ok(count)
 }

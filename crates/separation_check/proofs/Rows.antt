@@ -6,10 +6,8 @@ use borrow.Author.Differences.{ints}
 use Rattle.board_base.specs.declared.places.Cell.{Cell}
 use Rattle.cell_grid.specs.declared.frames.Frame.{Frame}
 use Rattle.cell_grid.specs.Place.{InFrame, IsBetween, place_of, row_of, column_of}
+use Rattle.cell_grid.proofs.PlaceLaws.{column_below}
 use Rattle.cell_sets.specs.Chains.{IsBefore}
-
-column_below : (f : Frame) (c : Cell) → InFrame f c → column_of f c < f.width
-column_below f c h = omega (arith, ints)
 
 -- a lower row has lower places
 row_less : (w r s x y : ℕ) → r < s → x < w → r * w + x < s * w + y
