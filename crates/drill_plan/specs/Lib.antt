@@ -1,0 +1,6 @@
+pub mod Sets
+pub mod Tools
+pub mod Entries
+pub mod Keys
+pub mod Plan
+pub mod Laws
