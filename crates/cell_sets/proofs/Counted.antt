@@ -1,6 +1,7 @@
 -- The visited cells as they are found, pass by pass and then the clearing rows; and numbers of worked boards.
 use Rattle.std.proofs.Common.{◌≡◌, ◌⊎◌, ◌↔◌, inl, inr, ℕ, ◌+◌, ◌<◌, ℤ, pos, Bool, true, false, ◌||◌, Option, Some, refl, sym, subst, ◌∙◌, arith}
 use Rattle.std.proofs.lemmas.Bool.{cases_lt}
+use Rattle.number_laws.proofs.Tests.{left_true, right_true}
 use Rattle.board_base.specs.declared.places.Cell.{Cell}
 use Rattle.cell_sets.specs.Contour.{guard_of, IsAllowed, IsContour}
 use Rattle.cell_sets.specs.Cleared.{IsOnClearingRow, stride_of}
@@ -9,14 +10,6 @@ use Rattle.cell_sets.specs.Passes.{ClearingRows, guard_at, IsVisitedBy}
 -- on the contour of a pass before pass k
 abbrev pub IsOnPassBefore : (ℕ → ℤ) → ℕ → (Cell → Bool) → Cell → Type 0
 IsOnPassBefore guard k kept c = (j : ℕ) × ((j < k) × IsContour kept (guard j) c)
-
-left_true : (a b : Bool) → a ≡ true → (a || b) ≡ true
-left_true true b e = refl
-left_true false b e = cc
-
-right_true : (a b : Bool) → b ≡ true → (a || b) ≡ true
-right_true true b e = refl
-right_true false b e = e
 
 or_cases : (a b : Bool) → (a || b) ≡ true → (a ≡ true) ⊎ (b ≡ true)
 or_cases true b e = inl refl

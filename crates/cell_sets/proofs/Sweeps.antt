@@ -4,6 +4,7 @@ use Rattle.std.specs.Int.{int_div_euclid}
 use borrow.Author.Differences.{ints}
 use Rattle.number_laws.proofs.Ring.{Ex, var, num, add, sub, mul, ring}
 use Rattle.number_laws.proofs.Order.{square_nonneg, square_le, mul_nonneg, le_by, mul_le_left, sub_nonneg, add_nonneg}
+use Rattle.number_laws.proofs.Squares.{square_within}
 use Rattle.number_laws.proofs.Quotients.{rounded_low, rounded_high}
 use Rattle.board_base.specs.declared.places.Point.{Point}
 use Rattle.board_base.specs.declared.places.Cell.{Cell}
@@ -55,11 +56,6 @@ joined ex ey tx ty h k h_in k_in e_in t_in =
     by l r e t i h k m f g a b c = omega (arith, ints)
 
 -- ---- a point and the centre of its cell
-
-square_within : (k x : ℤ) → neg_ℤ k ≤ℤ x → x ≤ℤ k → (x *ℤ x) ≤ℤ (k *ℤ k)
-square_within k x low high =
-    le_by (x *ℤ x) (k *ℤ k) ((k -ℤ x) *ℤ (k +ℤ x)) (mul_nonneg (k -ℤ x) (k +ℤ x) (omega (arith, ints)) (omega (arith, ints)))
-    (ring (k ∷ x ∷ []) (mul (var 0) (var 0)) (add (mul (var 1) (var 1)) (mul (sub (var 0) (var 1)) (add (var 0) (var 1)))) refl)
 
 -- along an axis a number is at most half a pitch from the middle of its cell
 near_middle : (p x : ℤ) → pos 0 <ℤ p → p ≡ pos 2 *ℤ half_of p → ((x -ℤ middle p (int_div_euclid x p)) *ℤ (x -ℤ middle p (int_div_euclid x p))) ≤ℤ (half_of p *ℤ half_of p)

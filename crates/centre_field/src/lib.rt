@@ -13,6 +13,3 @@ mod rows;
 pub use centres::allowed;
 pub use clearances::clearance;
 pub use plain::plain_clearance;
-
-#[cfg(test)]
-mod tests;

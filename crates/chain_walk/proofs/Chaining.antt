@@ -15,8 +15,8 @@ use Rattle.cell_sets.specs.Chains.{IsBefore, IsLinked}
 use Rattle.cell_sets.specs.Islands.{AreIslands}
 use Rattle.cell_grid.proofs.PlaceLaws.{place_below, place_same}
 use Rattle.cell_grid.proofs.CellsLaws.{in_frame_is, in_frame_true, before}
-use Rattle.cell_classes.specs.Floods.{ChangesNumbers}
-use Rattle.cell_classes.proofs.Numbers.{number_inside, number_outside}
+use Rattle.islands.specs.Floods.{ChangesNumbers}
+use Rattle.islands.proofs.Numbers.{number_inside, number_outside}
 use Rattle.cell_sets.proofs.Links.{IsFree, linked_sym, linked_trans, linked_self, linked_start}
 use Rattle.chain_walk.specs.Walk.{entry, IsWalk, IsShort, AreWalks}
 use Rattle.chain_walk.specs.Marks.{ChangesWorks, IsStartable, IsWalked}

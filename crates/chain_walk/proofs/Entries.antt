@@ -6,7 +6,7 @@ use Rattle.std.proofs.Math.ListN.{get_or-append}
 use Rattle.std.proofs.Math.Seq.{get_or-append_seam}
 use Rattle.std.proofs.lemmas.Bool.{cases_eq}
 use Rattle.board_base.specs.declared.places.Cell.{Cell}
-use Rattle.cell_classes.specs.Ways.{neighbour_of}
+use Rattle.islands.specs.Ways.{neighbour_of}
 use Rattle.chain_walk.specs.Walk.{origin, entry, IsAmong, GoesOn, GoesBack}
 
 -- b was first entered from a

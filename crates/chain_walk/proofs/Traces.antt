@@ -5,7 +5,7 @@ use Rattle.board_base.specs.declared.places.Cell.{Cell}
 use Rattle.board_base.specs.Lattice.{IsBeside, AreNeighbours}
 use Rattle.cell_sets.specs.Chains.{IsLinked}
 use Rattle.cell_sets.proofs.CellLaws.{beside_sym}
-use Rattle.cell_classes.proofs.Links.{beside_neighbour}
+use Rattle.islands.proofs.Links.{beside_neighbour}
 use Rattle.chain_walk.specs.Walk.{origin, entry, GoesOn, GoesBack, IsWalkFrom}
 use Rattle.chain_walk.specs.Runs.{WalkLaw}
 use Rattle.chain_walk.proofs.Unique.{own}

@@ -3,9 +3,9 @@ use Rattle.std.proofs.Common.{◌≡◌, ℕ, zero, suc, ◌+◌, ◌-◌, ◌<�
 use Rattle.std.proofs.lemmas.Bool.{cases_eq, cases_lt}
 use Rattle.board_base.specs.declared.places.Cell.{Cell}
 use Rattle.cell_sets.specs.Chains.{IsLinked}
-use Rattle.cell_classes.specs.Ways.{neighbour_of}
+use Rattle.islands.specs.Ways.{neighbour_of}
 use Rattle.cell_sets.proofs.Links.{IsFree, linked_trans, linked_self, linked_step, linked_end}
-use Rattle.cell_classes.proofs.Links.{beside_neighbour}
+use Rattle.islands.proofs.Links.{beside_neighbour}
 use Rattle.chain_walk.specs.Walk.{IsAmong, GoesOn, GoesBack, IsWalkFrom, OneWalk}
 
 module _ (taken : Cell → Bool) (start : Cell) where

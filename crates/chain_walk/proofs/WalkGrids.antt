@@ -11,8 +11,8 @@ use Rattle.cell_grid.specs.Place.{IsFrame, InFrame, place_of}
 use Rattle.cell_grid.specs.Cells.{in_frame, in_plane, number_in}
 use Rattle.cell_sets.specs.Chains.{IsLinked}
 use Rattle.cell_grid.proofs.CellsLaws.{in_frame_is, in_frame_true}
-use Rattle.cell_classes.specs.Ways.{neighbour_of}
-use Rattle.cell_classes.proofs.Numbers.{number_inside}
+use Rattle.islands.specs.Ways.{neighbour_of}
+use Rattle.islands.proofs.Numbers.{number_inside}
 use Rattle.chain_walk.specs.Walk.{origin, entry, IsFirst, IsWalkFrom, IsWalk, IsShort}
 use Rattle.chain_walk.specs.Marks.{ChangesWorks, IsFirstOpen, AreClosed, IsStartable, IsWalked, open_count}
 use Rattle.chain_walk.proofs.Walking.{IsWalking, walk_begun, went_on, came_back, walk_ended, walk_closed, fresh_own, short, count_closed}

@@ -13,10 +13,10 @@ use Rattle.cell_grid.specs.Cells.{in_frame, number_in}
 use Rattle.cell_sets.specs.Chains.{IsLinked, Chain}
 use Rattle.cell_grid.proofs.PlaceLaws.{place_below}
 use Rattle.cell_grid.proofs.CellsLaws.{in_frame_is}
-use Rattle.cell_classes.specs.Ways.{neighbour_of}
-use Rattle.cell_classes.proofs.Numbers.{number_inside, written_here, written_else, here_or_else}
+use Rattle.islands.specs.Ways.{neighbour_of}
+use Rattle.islands.proofs.Numbers.{number_inside, written_here, written_else, here_or_else}
 use Rattle.cell_sets.proofs.Links.{IsFree, linked_trans, linked_self, linked_step, linked_end}
-use Rattle.cell_classes.proofs.Links.{beside_neighbour, neighbours}
+use Rattle.islands.proofs.Links.{beside_neighbour, neighbours}
 use Rattle.chain_walk.proofs.Entries.{IsChild, AreOnce, once_push, among, among_back, goes, child, longer}
 use Rattle.chain_walk.specs.Walk.{IsAmong, GoesOn, GoesBack, IsWalkFrom}
 use Rattle.chain_walk.specs.Marks.{IsFirstOpen, AreClosed, IsStartable, IsWalked, open_count}

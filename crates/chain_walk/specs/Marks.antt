@@ -6,7 +6,7 @@ use Rattle.cell_grid.specs.Place.{cells_of}
 use Rattle.cell_grid.specs.Grid.{Grid}
 use Rattle.cell_grid.specs.Cells.{in_frame, number_in}
 use Rattle.cell_sets.specs.Chains.{IsLinked}
-use Rattle.cell_classes.specs.Ways.{neighbour_of}
+use Rattle.islands.specs.Ways.{neighbour_of}
 use Rattle.chain_walk.specs.Walk.{IsFirst}
 
 -- nothing but the working labels changed

@@ -4,7 +4,7 @@ use Rattle.std.specs.List.{Contains}
 use Rattle.board_base.specs.declared.places.Cell.{Cell}
 use Rattle.board_base.specs.Lattice.{AreNeighbours}
 use Rattle.cell_sets.specs.Chains.{IsBefore, IsLinked}
-use Rattle.cell_classes.specs.Ways.{neighbour_of}
+use Rattle.islands.specs.Ways.{neighbour_of}
 
 -- the cell at the origin, which stands past the end of a list
 abbrev pub origin : Cell

@@ -3,14 +3,14 @@ ghost use Rattle.std.specs.Prelude.{◌≡◌, ◌<◌, ◌≤◌, ◌+◌, ◌-
 ghost use Rattle.board_base.specs.declared.places.Cell.{Cell};
 ghost use Rattle.cell_grid.specs.Place.{IsFrame, InFrame, place_of, cells_of};
 ghost use Rattle.cell_grid.specs.Cells.{in_plane};
-ghost use Rattle.cell_classes.specs.Floods.{ChangesNumbers};
+ghost use Rattle.islands.specs.Floods.{ChangesNumbers};
 ghost use Rattle.chain_walk.specs.Walk.{entry, IsWalk, IsShort, AreWalks, OneWalk};
 ghost use Rattle.chain_walk.specs.Marks.{ChangesWorks, IsFirstOpen, AreClosed, IsStartable, IsWalked};
 ghost use Rattle.chain_walk.specs.Runs.{WalkLaw};
 
 use crate::Chain;
 use board_base::{Cell, Items};
-use cell_classes::{neighbour, number_classes};
+use islands::{neighbour, number_classes};
 use cell_grid::{Frame, Plane, Workbench, cell_at};
 use std::alloc::{AllocError, Global};
 

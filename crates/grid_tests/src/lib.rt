@@ -5,8 +5,20 @@
 #[cfg(test)]
 mod areas;
 #[cfg(test)]
+mod classes;
+#[cfg(test)]
+mod clearances;
+#[cfg(test)]
 mod covers;
+#[cfg(test)]
+mod frames;
+#[cfg(test)]
+mod joined;
+#[cfg(test)]
+mod labels;
 #[cfg(test)]
 mod places;
 #[cfg(test)]
 mod segments;
+#[cfg(test)]
+mod traces;

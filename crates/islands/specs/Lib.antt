@@ -1,0 +1,4 @@
+pub mod Ways
+pub mod Taken
+pub mod Floods
+pub mod Classes

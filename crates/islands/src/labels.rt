@@ -4,7 +4,7 @@ ghost use Rattle.cell_grid.specs.Place.{cells_of};
 ghost use Rattle.cell_grid.specs.Cells.{in_plane, number_in};
 ghost use Rattle.cell_sets.specs.Islands.{AreIslands, AreMoreIslands};
 
-use cell_classes::number_classes;
+use crate::classes::number_classes;
 use cell_grid::{Plane, Workbench};
 
 /// There are more than 65,535 islands.

@@ -1,11 +1,14 @@
-//! The islands of kept cells, and their numbers in the labels of a grid. How they are found may change:
-//! which islands have which numbers (specs/Islands of cell_grid), and that more than 65,535 are refused,
-//! may not.
+//! The classes of cells under chains of neighbours, corners too, numbered in the working labels of a
+//! grid; and the islands of kept cells, numbered in its labels. How they are found may change: which
+//! cells have which number (cell_sets), that more than 65,535 islands are refused, that no call takes
+//! memory, and which parts of the grid a call changes, may not.
 #![tactic(auto)]
 
+mod classes;
+mod floods;
 mod labels;
+mod ways;
 
+pub use classes::{number_classes, number_rest};
 pub use labels::{TooManyIslands, label};
-
-#[cfg(test)]
-mod tests;
+pub use ways::neighbour;

@@ -5,7 +5,7 @@ use Rattle.std.proofs.Math.ListN.{get_or-append}
 use Rattle.std.proofs.Math.Seq.{get_or-append_seam}
 use Rattle.std.proofs.lemmas.Grind.{get_or_default_zero}
 use Rattle.std.proofs.lemmas.Bool.{false≢true, cases_eq}
-use Rattle.number_laws.proofs.Tests.{by_bool}
+use Rattle.number_laws.proofs.Tests.{by_bool, cond_true, cond_false, not_true, not_false}
 use Rattle.board_base.specs.declared.places.Cell.{Cell}
 use Rattle.cell_grid.specs.declared.frames.Frame.{Frame}
 use Rattle.cell_grid.specs.Place.{InFrame, place_of, cell_of_place}
@@ -205,27 +205,15 @@ module _ (f : Frame) (free : Cell → Bool) (number class : Cell → ℕ) where
             ];
           }
 
-at_true : {X : Type 0} (t : Bool) (x y : X) → t ≡ true → cond t x y ≡ x
-at_true true x y e = refl
-at_true false x y e = absurd (false≢true e)
-
-not_true : (b : Bool) → not b ≡ true → b ≡ false
-not_true true e = absurd (false≢true e)
-not_true false e = refl
-
-not_false : (b : Bool) → not b ≡ false → b ≡ true
-not_false true e = refl
-not_false false e = absurd (false≢true (sym e))
-
 -- what a grid says of a cell of its frame
 pub swept_in : (g : Grid) (c : Cell) → in_frame g.frame c ≡ true → is_unswept g c ≡ not (get_or g.swept (place_of g.frame c) false)
-swept_in g c i = ap not (at_true (in_frame g.frame c) (get_or g.swept (place_of g.frame c) false) false i)
+swept_in g c i = ap not (cond_true (in_frame g.frame c) (get_or g.swept (place_of g.frame c) false) false i)
 
 pub island_in : (g : Grid) (c : Cell) → in_frame g.frame c ≡ true → island_of g c ≡ at g.labels (place_of g.frame c)
-island_in g c i = at_true (in_frame g.frame c) (at g.labels (place_of g.frame c)) 0 i
+island_in g c i = cond_true (in_frame g.frame c) (at g.labels (place_of g.frame c)) 0 i
 
 pub class_in : (g : Grid) (c : Cell) → in_frame g.frame c ≡ true → class_of g c ≡ at g.works (place_of g.frame c)
-class_in g c i = at_true (in_frame g.frame c) (at g.works (place_of g.frame c)) 1 i
+class_in g c i = cond_true (in_frame g.frame c) (at g.works (place_of g.frame c)) 1 i
 
 -- one cell of the grid more
 pub noted : (g : Grid) (frame : Frame) (ms ms' : List Meeting) (last last' : List ℕ) (n i k : ℕ) (c : Cell) → IsClasses (is_unswept g) (class_of g) → frame ≡ g.frame
@@ -242,10 +230,6 @@ noted g frame ms ms' last last' n i k c classes same p h place small island clas
     let free_is : is_unswept g c ≡ not swept = swept_in g c inside in
     collecting_on g.frame (is_unswept g) (island_of g) (class_of g) ms ms' last last' n i k c p h' (ap (λ (f : Frame). place_of f c) (sym same) ∙ place) small
     (class_is ∙ sym (class_in g c inside))
-    (λ free. island ∙ at_false swept 0 label (not_true swept (sym free_is ∙ free)) ∙ sym (island_in g c inside))
-    (λ off. island ∙ at_true swept 0 label (not_false swept (sym free_is ∙ off)))
+    (λ free. island ∙ cond_false swept 0 label (not_true swept (sym free_is ∙ free)) ∙ sym (island_in g c inside))
+    (λ off. island ∙ cond_true swept 0 label (not_false swept (sym free_is ∙ off)))
     (λ free. classes.some c free) skipped added
-  where
-    at_false : (t : Bool) (x y : ℕ) → t ≡ false → cond t x y ≡ y
-    at_false true x y e = absurd (false≢true (sym e))
-    at_false false x y e = refl

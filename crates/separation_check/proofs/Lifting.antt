@@ -3,7 +3,7 @@ use Rattle.std.proofs.Common.{◌≡◌, inl, inr, ℕ, zero, suc, ◌+◌, ◌<
 use Rattle.std.proofs.lemmas.List.{get_or-map, length-map}
 use Rattle.std.proofs.lemmas.Bool.{false≢true, cases_eq}
 use Rattle.std.specs.List.{Contains}
-use Rattle.number_laws.proofs.Tests.{by_bool}
+use Rattle.number_laws.proofs.Tests.{by_bool, cond_false}
 use Rattle.board_base.specs.declared.places.Cell.{Cell}
 use Rattle.cell_grid.specs.declared.frames.Frame.{Frame}
 use Rattle.cell_grid.specs.Grid.{Grid}
@@ -157,8 +157,4 @@ module _ (f : Frame) (free : Cell → Bool) (number class : Cell → ℕ) (islan
 
 -- a cell that has an island lies in the frame
 pub island_inside : (g : Grid) (c : Cell) → 0 < island_of g c → in_frame g.frame c ≡ true
-island_inside g c s = by_bool (in_frame g.frame c) (λ e. e) (λ out. absurd (omega (arith, s, at_false (in_frame g.frame c) (at g.labels (place_of g.frame c)) 0 out)))
-  where
-    at_false : (t : Bool) (x y : ℕ) → t ≡ false → cond t x y ≡ y
-    at_false true x y e = absurd (false≢true (sym e))
-    at_false false x y e = refl
+island_inside g c s = by_bool (in_frame g.frame c) (λ e. e) (λ out. absurd (omega (arith, s, cond_false (in_frame g.frame c) (at g.labels (place_of g.frame c)) 0 out)))

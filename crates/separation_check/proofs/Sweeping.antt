@@ -3,6 +3,7 @@ use Rattle.std.proofs.Common.{◌≡◌, ◌⊎◌, inl, inr, ◌↔◌, ℕ, �
 use Rattle.std.proofs.lemmas.List.{length-set}
 use Rattle.std.proofs.lemmas.Bool.{cases_eq, cases_lt, false≢true}
 use borrow.Author.Differences.{ints}
+use Rattle.number_laws.proofs.Tests.{cond_true}
 use Rattle.board_base.specs.declared.places.Point.{Point}
 use Rattle.board_base.specs.declared.places.Cell.{Cell}
 use Rattle.board_base.specs.Lattice.{centre_of}
@@ -122,10 +123,6 @@ marking_set start g h frame a b d y x e p k i j near new =
       ];
     }
 
-at_true : {X : Type 0} (t : Bool) (x y : X) → t ≡ true → cond t x y ≡ x
-at_true true x y e = refl
-at_true false x y e = absurd (false≢true e)
-
 -- what is true exactly where the one or the other is
 either : (r s t : Bool) → (r ≡ true → (s ≡ true) ⊎ (t ≡ true)) → (s ≡ true → r ≡ true) → (t ≡ true → r ≡ true) → r ≡ (s || t)
 either true true t f g h = refl
@@ -143,10 +140,10 @@ marked start g frame a b d y x p all c h =
     subst (λ (f : Frame). in_plane f g.swept c ≡ (in_plane f start.swept c || near_of (centre_of f.pitch c) a b d)) p.same_frame
     (let k : InFrame frame c = subst (λ (f : Frame). InFrame f c) (sym p.same_frame) h in
     let i : in_frame frame c ≡ true = in_frame_true frame c k in
-    at_true (in_frame frame c) (get_or g.swept (place_of frame c) false) false i
+    cond_true (in_frame frame c) (get_or g.swept (place_of frame c) false) false i
     ∙ either (get_or g.swept (place_of frame c) false) (get_or start.swept (place_of frame c) false) (near_of (centre_of frame.pitch c) a b d) (p.sound c k) (p.stays c k)
     (λ near. p.done c k (all c k near) near)
-    ∙ ap (λ (v : Bool). v || near_of (centre_of frame.pitch c) a b d) (sym (at_true (in_frame frame c) (get_or start.swept (place_of frame c) false) false i)))
+    ∙ ap (λ (v : Bool). v || near_of (centre_of frame.pitch c) a b d) (sym (cond_true (in_frame frame c) (get_or start.swept (place_of frame c) false) false i)))
 
 -- the cells of the frame that are near the segment ab with d stand in this window
 abbrev pub AreBetween : Frame → Point → Point → ℤ → Window → Type 0

@@ -3,7 +3,7 @@ use Rattle.std.proofs.Common.{◌≡◌, ◌⊎◌, inl, inr, ◌↔◌, IsTrue,
 use Rattle.std.proofs.lemmas.Bool.{false≢true, cases_eq}
 use Rattle.std.proofs.lemmas.Int.{by_lt_z}
 use borrow.Author.Differences.{ints}
-use Rattle.number_laws.proofs.Tests.{by_bool}
+use Rattle.number_laws.proofs.Tests.{by_bool, cond_false}
 use Rattle.board_base.specs.declared.places.Cell.{Cell}
 use Rattle.board_base.specs.Lattice.{IsBeside}
 use Rattle.cell_grid.specs.declared.frames.Frame.{Frame}
@@ -23,16 +23,12 @@ pub inside_is : (f : Frame) (c : Cell) (r : Bool) → IsTrue r ↔ InFrame f c �
 inside_is f c true e = sym (in_frame_true f c (e.0 refl))
 inside_is f c false e = sym (in_frame_false f c (λ h. false≢true (e.1 h)))
 
-at_false : {X : Type 0} (t : Bool) (x y : X) → t ≡ false → cond t x y ≡ y
-at_false true x y e = absurd (false≢true (sym e))
-at_false false x y e = refl
-
 -- the cells outside a frame are unswept, and of class 1
 pub unswept_out : (g : Grid) (c : Cell) → in_frame g.frame c ≡ false → is_unswept g c ≡ true
-unswept_out g c out = ap not (at_false (in_frame g.frame c) (get_or g.swept (place_of g.frame c) false) false out)
+unswept_out g c out = ap not (cond_false (in_frame g.frame c) (get_or g.swept (place_of g.frame c) false) false out)
 
 pub class_out : (g : Grid) (c : Cell) → in_frame g.frame c ≡ false → class_of g c ≡ 1
-class_out g c out = at_false (in_frame g.frame c) (get_or g.works (place_of g.frame c) 0) 1 out
+class_out g c out = cond_false (in_frame g.frame c) (get_or g.works (place_of g.frame c) 0) 1 out
 
 cell : ℤ → ℤ → Cell
 cell i j = record { i = i; j = j }

@@ -1,4 +1,0 @@
-pub mod Ways
-pub mod Taken
-pub mod Floods
-pub mod Classes
