@@ -21,14 +21,14 @@ times_suc t v =
 
 -- no step, and one step more
 pub no_step : (c : Cell) (e n : ℤ) → stepped c e n 0 ≡ c
-no_step c e n = same_cell (stepped c e n 0) c (none c.i e (zero_mul e)) (none c.j n (zero_mul n))
+no_step c e n = same_cell (stepped c e n 0).i (stepped c e n 0).j c.i c.j (none c.i e (zero_mul e)) (none c.j n (zero_mul n))
   where
     none : (x v : ℤ) → pos 0 *ℤ v ≡ pos 0 → x +ℤ pos 0 *ℤ v ≡ x
     none x v h = omega (arith, ints, h)
 
 pub more_step : (s b c : Cell) (e n : ℤ) (m : ℕ) → b ≡ stepped s e n m → e ≡ c.i -ℤ b.i → n ≡ c.j -ℤ b.j → c ≡ stepped s e n (suc m)
 more_step s b c e n m h x y =
-    same_cell c (stepped s e n (suc m)) (on c.i b.i s.i e (pos m *ℤ e) (pos (suc m) *ℤ e) (ap (λ (d : Cell). d.i) h) x (times_suc m e))
+    same_cell c.i c.j (stepped s e n (suc m)).i (stepped s e n (suc m)).j (on c.i b.i s.i e (pos m *ℤ e) (pos (suc m) *ℤ e) (ap (λ (d : Cell). d.i) h) x (times_suc m e))
     (on c.j b.j s.j n (pos m *ℤ n) (pos (suc m) *ℤ n) (ap (λ (d : Cell). d.j) h) y (times_suc m n))
   where
     on : (c b s v t t' : ℤ) → b ≡ s +ℤ t → v ≡ c -ℤ b → t' ≡ t +ℤ v → c ≡ s +ℤ t'
