@@ -172,11 +172,7 @@ fn touched_after(held: bool, piece: &Piece, c: Point, h: i64) -> bool
     ensures { result ≡ ((piece.now.on && part_touches c h piece.now.part) || (held && not (not piece.now.on && part_covers c h piece.now.part))) }
 {
     if piece.on {
-        if held {
-            true
-        } else {
-            piece.part.touches(c, h)
-        }
+        if held { true } else { piece.part.touches(c, h) }
     } else if held {
         !piece.part.covers(c, h)
     } else {
@@ -193,11 +189,7 @@ fn covered_after(held: bool, piece: &Piece, c: Point, h: i64) -> bool
     ensures { result ≡ ((piece.now.on && part_covers c h piece.now.part) || (held && not (not piece.now.on && part_touches c h piece.now.part))) }
 {
     if piece.on {
-        if held {
-            true
-        } else {
-            piece.part.covers(c, h)
-        }
+        if held { true } else { piece.part.covers(c, h) }
     } else if held {
         !piece.part.touches(c, h)
     } else {
