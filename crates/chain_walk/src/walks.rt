@@ -10,8 +10,8 @@ ghost use Rattle.chain_walk.specs.Runs.{WalkLaw};
 
 use crate::Chain;
 use board_base::{Cell, Items};
-use islands::{neighbour, number_classes};
 use cell_grid::{Frame, Plane, Workbench, cell_at};
+use islands::{neighbour, number_classes};
 use std::alloc::{AllocError, Global};
 
 // The first neighbour of a cell of the frame that is open.

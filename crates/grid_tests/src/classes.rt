@@ -1,7 +1,7 @@
 // Classes of small grids, worked out by hand.
-use islands::{neighbour, number_classes, number_rest};
 use board_base::Cell;
 use cell_grid::{Frame, Plane, Workbench, is_in_frame};
+use islands::{neighbour, number_classes, number_rest};
 use std::alloc::Global;
 
 // A grid of 5 columns from -2 on and 4 rows from 7 on, with these cells in Kept, by columns and rows

@@ -1,7 +1,7 @@
 // Clearances on small frames, worked out by hand.
-use centre_field::{allowed, clearance, plain_clearance};
 use board_base::Cell;
 use cell_grid::{Frame, GridError, Plane, Workbench, cell_at, is_in_frame};
+use centre_field::{allowed, clearance, plain_clearance};
 use std::alloc::{AllocError, Global};
 
 const NONE: u32 = u32::MAX;

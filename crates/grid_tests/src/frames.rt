@@ -1,8 +1,8 @@
 // Frames and grids, worked out by hand.
 ghost use Rattle.std.specs.Prelude.{◌≡◌, pos, negsuc};
 
-use cell_grid::{Frame, GridError, Plane, Workbench, cell_at, frame_of, is_in_frame};
 use board_base::{Bounds, Cell};
+use cell_grid::{Frame, GridError, Plane, Workbench, cell_at, frame_of, is_in_frame};
 use std::alloc::Global;
 
 // Why there is no grid of these sides, where there is none.
@@ -110,7 +110,10 @@ fn planes_are_listed_counted_and_cleared(rt: HostRuntime) {
     assert_eq!(rt; cells.as_slice(), [first, last].as_slice());
     assert_eq!(rt; bench.count(Plane::Pass), 2);
     bench.clear(Plane::Pass);
-    assert_eq!(rt; (bench.count(Plane::Pass), bench.count(Plane::Kept)), (0, 1));
+    assert_eq!(rt;
+        (bench.count(Plane::Pass), bench.count(Plane::Kept)),
+        (0, 1)
+    );
 }
 
 #[test]

@@ -2,9 +2,9 @@
 ghost use Rattle.std.specs.Prelude.{◌≡◌, pos, IfOk};
 ghost use Rattle.board_base.specs.Places.{IsNearPlace};
 
-use separation_check::{LabelFault, check_labels, groups, mark_swept, relabel};
 use board_base::{Cell, Point};
 use cell_grid::{Frame, GridError, Plane, Workbench, cell_at};
+use separation_check::{LabelFault, check_labels, groups, mark_swept, relabel};
 use std::alloc::{AllocError, Global};
 use std::test::Fail;
 

@@ -1,7 +1,7 @@
 // Islands, counted by hand.
-use islands::{TooManyIslands, label};
 use board_base::Cell;
 use cell_grid::{Frame, Plane, Workbench, is_in_frame};
+use islands::{TooManyIslands, label};
 use std::alloc::Global;
 
 // A grid with a kept cell at every second column and row: each is an island of its own.

@@ -3,9 +3,9 @@ ghost use Rattle.std.specs.Prelude.{◌≡◌, ◌<◌, ◌≤◌, ◌+◌, true
 ghost use Rattle.board_base.specs.declared.places.Cell.{Cell};
 ghost use Rattle.cell_grid.specs.Cells.{is_above as is_above_of, IsOnBorder};
 
-use contours::{contour, rows};
 use board_base::{Cell, CellBox};
 use cell_grid::{Frame, GridError, Plane, Workbench, cell_at};
+use contours::{contour, rows};
 use std::alloc::Global;
 use std::test::Fail;
 

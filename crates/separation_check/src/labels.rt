@@ -9,8 +9,8 @@ ghost use Rattle.separation_check.specs.Unswept.{is_unswept, class_of};
 ghost use Rattle.separation_check.specs.Tears.{IsFault, AreWhole};
 
 use board_base::Cell;
-use islands::number_rest;
 use cell_grid::{Frame, Plane, Workbench, cell_at, is_in_frame};
+use islands::number_rest;
 
 /// Numbers the classes of the cells outside Swept in the working labels. All cells outside the frame
 /// are of class 1; swept cells have 0.
