@@ -2,7 +2,7 @@
 use Rattle.std.proofs.Common.{◌≡◌, ℕ, Bool, List, length, Result, Ok, Err, sym, subst}
 use Rattle.board_base.specs.declared.places.Cell.{Cell}
 use Rattle.board_base.specs.declared.places.Move.{Move}
-use Rattle.board_base.specs.Lattice.{IsHalfDiagonal, half_diagonal_of}
+use Rattle.board_base.specs.Lattice.{IsHalfDiagonal, centre_of, half_diagonal_of}
 use Rattle.cell_sets.specs.Contour.{IsContour}
 use Rattle.cell_sets.specs.Islands.{AreMoreIslands}
 use Rattle.cell_sets.specs.Sweep.{IsUnswept}
@@ -24,12 +24,15 @@ use Rattle.mill_plan.specs.declared.limits.LimitHit.{LimitHit}
 use Rattle.mill_plan.specs.declared.limits.PlanError.{PlanError}
 use Rattle.mill_plan.specs.declared.limits.LimitHit.TheVariants as limits
 use Rattle.mill_plan.specs.Job.{IsJob, guard, keeps}
-use Rattle.mill_plan.specs.Cuts.{program_at}
 use Rattle.mill_plan.specs.Frame.{sweep_of, IsFrameOf, HitsLimit}
 use Rattle.mill_plan.specs.Isolated.{PartsOthers, IsIsolationOf}
 use Rattle.mill_plan.specs.Mills.{Mills, IsWhollySwept, IsProgramOf}
 use Rattle.mill_plan.specs.Raster.{PartsSwept, IsRasterOf}
-use Rattle.mill_plan.proofs.ProgramLaws.{program_fits, program_valid, program_runs}
+use Rattle.board_base.specs.Places.{IsPlace}
+use Rattle.std.proofs.lemmas.List.Elements.{All-contains}
+use Rattle.chain_walk.specs.Runs.{WalkLaw, CornerLaw}
+use Rattle.mill_plan.specs.Cuts.{AreContourWalks, IsAlong, program_along}
+use Rattle.mill_plan.proofs.ProgramLaws.{traced_fits, traced_valid, traced_runs, traces, placed}
 use Rattle.mill_plan.proofs.MillsLaws.{runs}
 
 -- the error of an answer
@@ -58,12 +61,16 @@ run_parts job painted number groups program swept runs answers =
     let found = runs answers in
     (found.0, found.1, parts job painted number groups found.0 swept found.2)
 
-pub isolation_is : (job : Job) (painted : List Painted) (raster : Raster) (plan : Isolation) → IsJob job → IsHalfDiagonal job.pitch (half_diagonal_of job.pitch) → CoverLaw → ScaledSweep → RunLaw → IsRasterOf job painted raster
-    → plan.frame ≡ raster.frame → plan.kept ≡ raster.kept → plan.islands ≡ raster.islands → plan.groups ≡ raster.groups → length raster.centres.items ≡ plan.centres → plan.program ≡ program_at job raster.centres.items
-    → IsIsolationOf job painted plan
-isolation_is job painted raster plan ok diagonal cover sweep run r frame kept islands groups centres program =
-    let valid = program_valid job raster.centres.items ok r.places in
-    let mills = runs job painted raster.centres.items ok diagonal cover sweep run valid (program_runs job raster.centres.items ok) (r.centres).each in
+pub isolation_is : (job : Job) (painted : List Painted) (raster : Raster) (plan : Isolation) → IsJob job → IsHalfDiagonal job.pitch (half_diagonal_of job.pitch) → CoverLaw → ScaledSweep → RunLaw → WalkLaw → CornerLaw
+    → IsRasterOf job painted raster → AreContourWalks job painted raster.chains.items
+    → plan.frame ≡ raster.frame → plan.kept ≡ raster.kept → plan.islands ≡ raster.islands → plan.groups ≡ raster.groups → length raster.centres.items ≡ plan.centres → length raster.chains.items ≡ plan.chains
+    → IsAlong job raster.chains.items plan.program → IsIsolationOf job painted plan
+isolation_is job painted raster plan ok diagonal cover sweep run walk corner r walks frame kept islands groups centres count along =
+    let place : (c : Cell) → IsContour (keeps job painted) (guard job) c → IsPlace (centre_of job.pitch c) =
+    λ c h. All-contains (λ d. IsPlace (centre_of job.pitch d)) raster.centres.items c r.places (((r.centres).each c).1 h) in
+    let traced = traces job painted raster.chains.items along.walks walks along.ordered walk in
+    let valid = traced_valid job along.walks ok (placed job painted raster.chains.items along.walks walks along.ordered walk place) in
+    let mills = runs job painted along.walks ok diagonal cover sweep corner run valid (traced_runs job along.walks ok) traced in
     record {
       framed = subst (λ f. IsFrameOf job painted (Ok f)) (sym frame) r.framed;
       kept = rw kept r.kept;
@@ -73,8 +80,9 @@ isolation_is job painted raster plan ok diagonal cover sweep run r frame kept is
       centres = record { cells = raster.centres.items; all = r.centres; size = centres };
       groups = rw groups r.groups;
       lists = rw groups r.lists;
-      words = subst (IsProgramOf job) (sym program) (program_fits job raster.centres.items);
-      program = subst IsProgram (sym program) valid;
-      mills = subst (λ p. RunsTo (lines_of p) (Mills job painted)) (sym program) mills;
-      parts = rw groups (subst (λ p. RunsTo (lines_of p) (PartsOthers job r.number raster.groups.items)) (sym program) (run_parts job painted r.number raster.groups.items (program_at job raster.centres.items) r.parts mills));
+      words = subst (IsProgramOf job) (sym along.is) (traced_fits job along.walks);
+      traced = record { rows = raster.chains.items; contour = walks; along = along; size = count };
+      program = subst IsProgram (sym along.is) valid;
+      mills = subst (λ p. RunsTo (lines_of p) (Mills job painted)) (sym along.is) mills;
+      parts = rw groups (subst (λ p. RunsTo (lines_of p) (PartsOthers job r.number raster.groups.items)) (sym along.is) (run_parts job painted r.number raster.groups.items (program_along job along.walks) r.parts mills));
     }
