@@ -7,7 +7,6 @@ use Rattle.board_base.specs.declared.places.Role.TheVariants as roles
 use Rattle.board_base.specs.declared.places.Move.{Move}
 use Rattle.board_base.specs.Files.{Files}
 use Rattle.board_base.specs.Shelf.{ShelfState}
-use Rattle.board_base.specs.Sink.{SinkState}
 use Rattle.board_base.specs.Binds.{◌>>=◌}
 use Rattle.shape_parts.specs.declared.shape.Painted.{Painted}
 use Rattle.rs274_sim.specs.declared.line.Line.{Line}
@@ -26,16 +25,20 @@ use Rattle.mill_top.specs.declared.status.Status.{Status}
 use Rattle.mill_top.specs.declared.status.Status.TheVariants.{Done, TooLong}
 use Rattle.mill_top.specs.Words.{Spec, spec_of}
 use Rattle.mill_top.specs.Limits.{most_bytes}
-use Rattle.mill_top.specs.Answers.{usage, accepted_bytes, input, IfTold}
+use Rattle.mill_top.specs.Answers.{usage, IfTold}
+use Rattle.mill_top.specs.Reads.{Reading, held_in, accepted_bytes, input}
 use Rattle.mill_top.specs.Accepted.{Accepts, accepted, image, painted_or_refused}
 use Rattle.mill_top.specs.Outputs.{Output, all_stored}
 use Rattle.mill_top.specs.Report.{side_of, report_text}
-use Rattle.mill_top.specs.Fits.{Fits, files_of}
-use Rattle.mill_top.specs.Run.{Accepted, Leaves, Becomes}
+use Rattle.mill_top.specs.Ending.{Ending, refusal, Reaches}
+use Rattle.mill_top.specs.Mill.{IsPlan, carried_out, Ends, files_of}
+use Rattle.mill_top.specs.Run.{Leaves}
+use Rattle.mill_top.proofs.RunLaws.{told_weaker}
+use Rattle.mill_top.proofs.MillLaws.{EndsAs, ends_as, status_is, of_done}
 use Rattle.mill_top.specs.Headline.{Milled, Wrote, IsTextOf, NeverBites, PassesContour, Separates}
 
 -- the bytes are those of a plan that isolates the image
-pub record IsPlanned (m : Milled) : Type 0 where
+pub record IsOfPlan (m : Milled) : Type 0 where
   pub plan : Isolation
   pub isolates : IsIsolationOf m.job m.painted plan
   pub stands : StandsFor (text_of (lines_of plan.program)) (lines_of plan.program)
@@ -75,18 +78,18 @@ of_ok : Accepts → Result Accepts Status → Accepts
 of_ok other (Ok x) = x
 of_ok other (Err status) = other
 
-pub steps : (words : List (List ℕ)) (files : Files) (x : Accepts) → accepted words files ≡ Ok x → StepsOf words files x
+pub steps : (words : List (List ℕ)) (files : Files) (x : Accepts) → accepted words (held_in files) ≡ Ok x → StepsOf words files x
 unfolding accepted step of_ok
 steps words files x e =
     let first = step (usage (spec_of words)) _ x e in
-    let second = step (input roles.Front (first.0).front files) _ x first.2 in
+    let second = step (input roles.Front (first.0).front (held_in files)) _ x first.2 in
     let third = step (image roles.Front second.0) _ x second.2 in
     let same = ap (of_ok x) third.2 in
     (first.0, words_accepted _ _ first.1, second.0, bytes_accepted roles.Front _ _ second.1, subst (λ a. StandsForImage second.0 (Ok a.painted)) same (image_accepted roles.Front _ _ third.1), sym (ap (λ a. a.job) same))
 
-planned : (job spec_job : Job) (painted : List Painted) (plan : Isolation) → job ≡ spec_job → IsIsolationOf job painted plan → StandsFor (text_of (lines_of plan.program)) (lines_of plan.program)
-    → IsPlanned (record { job = spec_job; painted = painted; program = text_of (lines_of plan.program); report = report_text (codes "front") (side_of plan) })
-planned job spec_job painted plan same isolates stands = record {
+of_plan : (job spec_job : Job) (painted : List Painted) (plan : Isolation) → job ≡ spec_job → IsIsolationOf job painted plan → StandsFor (text_of (lines_of plan.program)) (lines_of plan.program)
+    → IsOfPlan (record { job = spec_job; painted = painted; program = text_of (lines_of plan.program); report = report_text (codes "front") (side_of plan) })
+of_plan job spec_job painted plan same isolates stands = record {
   plan = plan;
   isolates = subst (λ j. IsIsolationOf j painted plan) same isolates;
   stands = stands;
@@ -99,40 +102,30 @@ both_stored : (plan : Isolation) (files : Files)
 unfolding files_of
 both_stored plan files = refl
 
-wrote : (words : List (List ℕ)) (files : Files) (now : Option Files) (x : Accepts) (outputs : List Output) → StepsOf words files x → Fits x outputs
-    → now ≡ all_stored outputs (Some files) → Wrote IsPlanned words files now
-unfolding Fits
-wrote words files now x outputs s fits stored = record {
+wrote : (words : List (List ℕ)) (files : Files) (now : Option Files) (x : Accepts) (plan : Isolation) → StepsOf words files x → IsPlan x plan
+    → now ≡ all_stored (files_of plan) (Some files) → Wrote IsOfPlan words files now
+wrote words files now x plan s planned stored = record {
   spec = s.0;
   given = s.1;
   front = s.2;
   front_held = s.3;
   painted = x.painted;
   paints = s.4;
-  program = text_of (lines_of fits.plan.program);
-  report = report_text (codes "front") (side_of fits.plan);
-  stored = stored ∙ ap (λ o. all_stored o (Some files)) fits.files ∙ both_stored fits.plan files;
-  holds = planned x.job (s.0).job x.painted fits.plan s.5 fits.isolates fits.stands;
+  program = text_of (lines_of plan.program);
+  report = report_text (codes "front") (side_of plan);
+  stored = stored ∙ both_stored plan files;
+  holds = of_plan x.job (s.0).job x.painted plan s.5 planned.isolates planned.stands;
 }
 
-done_told : (words : List (List ℕ)) (before now : Option Files) → Accepted words before (λ outputs. now ≡ all_stored outputs before) → IfTold before (λ files. Wrote IsPlanned words files now)
-done_told words None now a = tt
-done_told words (Some files) now a = wrote words files now a.0 a.2 (steps words files a.0 a.1) a.3 a.4
-
-was_done : (status result : Status) (before now : SinkState) → Becomes status result before now → result ≡ Done → status ≡ Done
-was_done status result before now (inl e) done = sym e ∙ done
-was_done status result before now (inr (inl e)) done = absurd (cc)
-was_done status result before now (inr (inr e)) done = e.0
+done_told : (words : List (List ℕ)) (before now : Option Files) → Reaches (Ends words) before (λ e. (e.status ≡ Done) × (now ≡ all_stored e.outputs before)) → IfTold before (λ files. Wrote IsOfPlan words files now)
+done_told words None now r = tt
+done_told words (Some files) now r =
+    let p = of_done words (held_in files) r.2 (subst (λ given. Ends words given r.2) r.1 r.3) (r.4).0 in
+    wrote words files now p.0 p.1 (steps words files p.0 p.2) p.3 ((r.4).1 ∙ ap (λ e. all_stored e.outputs (Some files)) p.4)
 
 -- after Done the files of a plan are stored
-pub isolated : (words : List (List ℕ)) (status result : Status) (before now : ShelfState) (sink_before sink_now : SinkState) → Leaves words status before now
-    → Becomes status result sink_before sink_now → result ≡ Done → IfTold before.files (λ files. Wrote IsPlanned words files now.files)
-isolated words status result before now sink_before sink_now leaves becomes done =
-    done_told words before.files now.files (subst (λ s. Leaves words s before now) (was_done status result sink_before sink_now becomes done) leaves)
-
-told_weaker : (before : Option Files) (P Q : Files → Type 0) → ((files : Files) → P files → Q files) → IfTold before P → IfTold before Q
-told_weaker None P Q weaker h = tt
-told_weaker (Some files) P Q weaker h = weaker files h
+pub isolated : (words : List (List ℕ)) (result : Status) (before now : ShelfState) → Leaves (Ends words) result before now → result ≡ Done → IfTold before.files (λ files. Wrote IsOfPlan words files now.files)
+isolated words result before now leaves done = done_told words before.files now.files (subst (λ s. Leaves (Ends words) s before now) done leaves)
 
 wrote_weaker : (P Q : Milled → Type 0) (words : List (List ℕ)) (before : Files) (now : Option Files) → ((m : Milled) → P m → Q m) → Wrote P words before now → Wrote Q words before now
 wrote_weaker P Q words before now weaker w = record {
@@ -149,12 +142,12 @@ wrote_weaker P Q words before now weaker w = record {
 }
 
 -- what holds of the bytes of every such plan holds of those that are stored
-pub told_of_plan : (P : Milled → Type 0) (words : List (List ℕ)) (before now : Option Files) → ((m : Milled) → IsPlanned m → P m)
-    → IfTold before (λ files. Wrote IsPlanned words files now) → IfTold before (λ files. Wrote P words files now)
+pub told_of_plan : (P : Milled → Type 0) (words : List (List ℕ)) (before now : Option Files) → ((m : Milled) → IsOfPlan m → P m)
+    → IfTold before (λ files. Wrote IsOfPlan words files now) → IfTold before (λ files. Wrote P words files now)
 told_of_plan P words before now weaker h =
-    told_weaker before (λ files. Wrote IsPlanned words files now) (λ files. Wrote P words files now) (λ files w. wrote_weaker IsPlanned P words files now weaker w) h
+    told_weaker before (λ files. Wrote IsOfPlan words files now) (λ files. Wrote P words files now) (λ files w. wrote_weaker IsOfPlan P words files now weaker w) h
 
-pub text_of_plan : (m : Milled) → IsPlanned m → IsTextOf m
+pub text_of_plan : (m : Milled) → IsOfPlan m → IsTextOf m
 text_of_plan m p = (p.plan.program, p.isolates.words, p.program)
 
 -- what the run of the lines does, the run of their text does
@@ -168,16 +161,16 @@ runs_weaker lines P Q weaker runs answers =
     let found = runs answers in
     (found.0, found.1, weaker found.0 found.2)
 
-plan_runs : (m : Milled) (P : List Move → Type 0) (p : IsPlanned m) → RunsTo (lines_of p.plan.program) P → Runs m.program P
+plan_runs : (m : Milled) (P : List Move → Type 0) (p : IsOfPlan m) → RunsTo (lines_of p.plan.program) P → Runs m.program P
 plan_runs m P p runs = runs_as_text m.program (lines_of p.plan.program) P p.program p.stands runs
 
-pub plan_never_bites : (m : Milled) → IsPlanned m → NeverBites m
+pub plan_never_bites : (m : Milled) → IsOfPlan m → NeverBites m
 plan_never_bites m p = plan_runs m _ p (runs_weaker (lines_of p.plan.program) (Mills m.job m.painted) _ (λ moves mills. mills.no_bite) p.isolates.mills)
 
-pub plan_passes_contour : (m : Milled) → IsPlanned m → PassesContour m
+pub plan_passes_contour : (m : Milled) → IsOfPlan m → PassesContour m
 plan_passes_contour m p = plan_runs m _ p (runs_weaker (lines_of p.plan.program) (Mills m.job m.painted) _ (λ moves mills. mills.visited) p.isolates.mills)
 
-pub plan_separates : (m : Milled) → IsPlanned m → Separates m
+pub plan_separates : (m : Milled) → IsOfPlan m → Separates m
 plan_separates m p = record {
   side = side_of p.plan;
   number = p.isolates.number;
