@@ -35,7 +35,7 @@ use Rattle.mill_top.specs.Mill.{IsPlan, carried_out, Ends, files_of}
 use Rattle.mill_top.specs.Run.{Leaves}
 use Rattle.mill_top.proofs.RunLaws.{told_weaker}
 use Rattle.mill_top.proofs.MillLaws.{EndsAs, ends_as, status_is, of_done}
-use Rattle.mill_top.specs.Headline.{Milled, Wrote, IsTextOf, NeverBites, PassesContour, Separates}
+use Rattle.mill_top.specs.Headline.{Milled, Wrote, IsTextOf, NeverBites, PassesContour, FollowsWalks, Separates}
 
 -- the bytes are those of a plan that isolates the image
 pub record IsOfPlan (m : Milled) : Type 0 where
@@ -170,6 +170,9 @@ plan_never_bites m p = plan_runs m _ p (runs_weaker (lines_of p.plan.program) (M
 pub plan_passes_contour : (m : Milled) → IsOfPlan m → PassesContour m
 plan_passes_contour m p = plan_runs m _ p (runs_weaker (lines_of p.plan.program) (Mills m.job m.painted) _ (λ moves mills. mills.visited) p.isolates.mills)
 
+pub plan_follows_walks : (m : Milled) → IsOfPlan m → FollowsWalks m
+plan_follows_walks m p = (p.plan.program, p.plan.chains, p.program, p.isolates.traced)
+
 pub plan_separates : (m : Milled) → IsOfPlan m → Separates m
 plan_separates m p = record {
   side = side_of p.plan;
@@ -178,6 +181,7 @@ plan_separates m p = record {
   kept = p.isolates.kept;
   islands = p.isolates.islands;
   centres = p.isolates.centres;
+  chains = (p.isolates.traced.rows, (p.isolates.traced.contour, p.isolates.traced.size));
   groups = p.isolates.groups;
   report = p.report;
   lists = p.isolates.lists;
