@@ -2,3 +2,4 @@ pub mod TextLaws
 pub mod OutlineLaws
 pub mod SpelledLaws
 pub mod OriginLaws
+pub mod MacroLaws

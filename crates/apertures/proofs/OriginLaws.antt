@@ -6,6 +6,8 @@ use borrow.Author.Differences.{ints}
 use Rattle.std.proofs.lemmas.Grind.{common_steps}
 use Rattle.board_base.specs.OptionBinds.{◌>>=◌}
 use Rattle.board_base.specs.Places.{IsCoordinate, IsPlace}
+use Rattle.number_laws.proofs.Tests.{both, cond_true}
+use Rattle.plane_arcs.proofs.RangeLaws.{coordinate_inside}
 use Rattle.board_base.specs.declared.places.Point.{Point}
 use Rattle.fixed_num.specs.Angles.{in_turn}
 use Rattle.plane_arcs.specs.Turned.{in_range, point_at}
@@ -20,22 +22,12 @@ use Rattle.apertures.specs.Placed.{mirrored, turned, shifted, placed_point, plac
 use Rattle.apertures.specs.Origin.{OriginLaw}
 use Rattle.apertures.specs.declared.place.Mirror.TheVariants.{Keep}
 
-small : (n : ℕ) → n ≤ 500000000 → nat_le n 500000000 ≡ true
-small n h = grind (arith, common_steps)
-
-inside : (v : ℤ) → IsCoordinate v → in_range v ≡ true
-unfolding in_range
-inside v h = small (unsigned_abs v) (omega (arith, ints, h.low, h.high))
-
 plus_none : (v : ℤ) → v +ℤ pos 0 ≡ v
 plus_none v = omega (arith, ints)
 
-both_in : (a b : Bool) (p : Point) → a ≡ true → b ≡ true → cond (a && b) (Some p) None ≡ Some p
-both_in a b p e f = rw (e, f) refl
-
 stays_at : (x y : ℤ) → IsCoordinate x → IsCoordinate y → point_at (x +ℤ pos 0) (y +ℤ pos 0) ≡ Some (record { x = x; y = y })
 stays_at x y h k =
-    ap (λ v. point_at v (y +ℤ pos 0)) (plus_none x) ∙ ap (point_at x) (plus_none y) ∙ both_in (in_range x) (in_range y) (record { x = x; y = y }) (inside x h) (inside y k)
+    ap (λ v. point_at v (y +ℤ pos 0)) (plus_none x) ∙ ap (point_at x) (plus_none y) ∙ cond_true (in_range x && in_range y) (Some (record { x = x; y = y })) None (both (in_range x) (in_range y) (coordinate_inside x h) (coordinate_inside y k))
 
 -- where a point comes to at the origin
 abbrev still : Point → Option Point

@@ -1,19 +1,26 @@
 -- What the text of an aperture defines.
-use Rattle.std.specs.Prelude.{ℕ, ℤ, pos, neg_ℤ, ◌-ℤ◌, int_lt, List, [], ◌∷◌, true, false, if◌then◌else◌, Some, None, Result, Ok, Err}
+use Rattle.std.specs.Prelude.{ℕ, ℤ, pos, neg_ℤ, ◌-ℤ◌, int_lt, List, [], ◌∷◌, fold, true, false, if◌then◌else◌, Option, Some, None, Result, Ok, Err}
+use Rattle.std.specs.Str.{bytes_eq}
 use Rattle.board_base.specs.Binds.{◌>>=◌}
+use Rattle.macro_eval.specs.Trees.{Statement}
+use Rattle.macro_eval.specs.Evaluated.{evaluated}
+use Rattle.macro_eval.specs.declared.fault.MacroFault.{MacroFault}
+use Rattle.macro_eval.specs.declared.machine.Primitive.{Primitive}
 use Rattle.shape_parts.specs.Boxes.{half_up}
 use Rattle.shape_parts.specs.declared.shape.Part.{Part}
 use Rattle.shape_parts.specs.declared.shape.Part.TheVariants.{Disc, Capsule, Area}
 use Rattle.shape_parts.specs.declared.shape.Piece.{Piece}
 use Rattle.apertures.specs.declared.aperture.ApertureError.{ApertureError}
-use Rattle.apertures.specs.declared.aperture.ApertureError.TheVariants.{Syntax, Unsupported}
+use Rattle.apertures.specs.declared.aperture.ApertureError.TheVariants.{Syntax, Unsupported, Macro}
 use Rattle.apertures.specs.declared.aperture.Unit.{Unit}
+use Rattle.apertures.specs.declared.macros.NamedMacro.{NamedMacro}
 use Rattle.apertures.specs.declared.texts.Template.{Template}
 use Rattle.apertures.specs.declared.texts.Template.TheVariants.{Circle, Obround, Rectangle, Polygon}
 use Rattle.apertures.specs.Figures.{Figure}
 pub use Rattle.apertures.specs.Outlines.{at}
 use Rattle.apertures.specs.Outlines.{corners, vertices}
-use Rattle.apertures.specs.Texts.{template_of, values_behind, not_below, sizes_of, count_of, turn_of, width_of}
+use Rattle.apertures.specs.Primitives.{all_pieces}
+use Rattle.apertures.specs.Texts.{name_in, template_of, values_behind, arguments_of, not_below, sizes_of, count_of, turn_of, width_of}
 
 -- a disc about the origin
 abbrev pub disc : ℤ → Part
@@ -100,7 +107,7 @@ abbrev pub polygon_at : Unit → ℤ → ℤ → ℤ → List ℤ → Result Fig
 polygon_at unit across count angle holes = do
   size ← not_below across
   corners ← not_below count
-  n ← count_of corners
+  n ← count_of 12 corners
   inner ← sizes_of holes
   pierced_polygon unit size n (turn_of angle) inner
 
@@ -123,9 +130,41 @@ figure_of Rectangle unit values = do
   rectangle_of unit sizes
 figure_of Polygon unit values = polygon_of unit values
 
--- the aperture that a text defines, or why it defines none
-unfoldable pub defined : Unit → List ℕ → Result Figure ApertureError
-defined unit bytes = do
-  template ← template_of bytes
+-- the primitives of a macro, or its fault
+abbrev pub primitives_or : Result (List Primitive) MacroFault → Result (List Primitive) ApertureError
+primitives_or (Err fault) = Err (Macro fault)
+primitives_or (Ok primitives) = Ok primitives
+
+-- the figure of a macro with these arguments: the pieces of its primitives
+abbrev pub macro_figure : Unit → List Statement → List ℤ → Result Figure ApertureError
+macro_figure unit statements arguments = do
+  primitives ← primitives_or (evaluated statements arguments)
+  pieces ← all_pieces unit primitives
+  Ok (record { pieces = pieces; stroke = None })
+
+-- the macro of a name, of which the last one counts
+abbrev pub macro_named : List ℕ → List NamedMacro → Option (List Statement)
+macro_named name macros = fold (λ found m. if bytes_eq m.name name then Some m.body else found) None macros
+
+-- a macro that is there, or no aperture
+abbrev pub a_macro : Option (List Statement) → Result (List Statement) ApertureError
+a_macro None = Err Syntax
+a_macro (Some statements) = Ok statements
+
+-- the aperture of a text with the macro of its name
+abbrev pub by_macro : Unit → List NamedMacro → List ℕ → Result Figure ApertureError
+by_macro unit macros bytes = do
+  statements ← a_macro (macro_named (name_in bytes) macros)
+  arguments ← arguments_of bytes
+  macro_figure unit statements arguments
+
+-- the aperture of a text with a template, or else with a macro
+abbrev pub by_template : Option Template → Unit → List NamedMacro → List ℕ → Result Figure ApertureError
+by_template None unit macros bytes = by_macro unit macros bytes
+by_template (Some template) unit macros bytes = do
   values ← values_behind bytes
   figure_of template unit values
+
+-- the aperture that a text defines where these macros are there, or why it defines none
+unfoldable pub defined : Unit → List NamedMacro → List ℕ → Result Figure ApertureError
+defined unit macros bytes = by_template (template_of bytes) unit macros bytes

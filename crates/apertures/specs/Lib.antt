@@ -1,5 +1,6 @@
 pub mod Texts
 pub mod Outlines
+pub mod Primitives
 pub mod Figures
 pub mod Defined
 pub mod Placed

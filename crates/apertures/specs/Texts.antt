@@ -1,13 +1,13 @@
 -- The texts of apertures: a template, a comma, and values with the letter X between them.
-use Rattle.std.specs.Prelude.{ℕ, ◌*◌, ◌/◌, ◌%◌, ◌<◌, ◌^◌, ℤ, pos, negsuc, int_le, int_div, unsigned_abs, List, [], ◌∷◌, Bool, if◌then◌else◌, ◌&&◌, ◌==◌, nat_le, Result, Ok, Err}
-use Rattle.std.specs.List.{before_first, after_first, slice_split}
+use Rattle.std.specs.Prelude.{ℕ, ◌+◌, ◌*◌, ◌/◌, ◌%◌, ◌<◌, ◌^◌, ℤ, pos, negsuc, int_le, int_div, unsigned_abs, List, [], ◌∷◌, Bool, if◌then◌else◌, ◌&&◌, ◌==◌, nat_le, drop, Option, Some, None, Result, Ok, Err}
+use Rattle.std.specs.List.{before_first, after_first, position, slice_split}
 use Rattle.board_base.specs.Binds.{◌>>=◌}
 use Rattle.fixed_num.specs.Angles.{in_turn}
 use Rattle.fixed_num.specs.Rounding.{round_div_of}
 use Rattle.fixed_num.specs.Values.{cut_at}
 use Rattle.fixed_num.specs.declared.number.NumError.{NumError}
 use Rattle.apertures.specs.declared.aperture.ApertureError.{ApertureError}
-use Rattle.apertures.specs.declared.aperture.ApertureError.TheVariants.{Syntax, NotBuiltYet, OutOfRange}
+use Rattle.apertures.specs.declared.aperture.ApertureError.TheVariants.{Syntax, OutOfRange}
 use Rattle.apertures.specs.declared.aperture.Unit.{Unit}
 use Rattle.apertures.specs.declared.aperture.Unit.TheVariants.{Mm, Inch}
 use Rattle.apertures.specs.declared.texts.Template.{Template}
@@ -21,20 +21,24 @@ is_comma b = b == 44
 abbrev pub is_times : ℕ → Bool
 is_times b = b == 88
 
--- the template of a name, which has at least one byte: `C`, `O`, `R` or `P`, and no other one yet
-abbrev pub named : List ℕ → Result Template ApertureError
-named [] = Err Syntax
+-- the template of a name: `C`, `O`, `R` or `P`; any other name is a macro's
+abbrev pub named : List ℕ → Option Template
+named [] = None
 named (b ∷ []) =
-    if b == 67 then Ok Circle
-    else if b == 79 then Ok Obround
-    else if b == 82 then Ok Rectangle
-    else if b == 80 then Ok Polygon
-    else Err NotBuiltYet
-named (b ∷ c ∷ bytes) = Err NotBuiltYet
+    if b == 67 then Some Circle
+    else if b == 79 then Some Obround
+    else if b == 82 then Some Rectangle
+    else if b == 80 then Some Polygon
+    else None
+named (b ∷ c ∷ bytes) = None
 
--- the template of a text: its name stands before the first comma
-unfoldable pub template_of : List ℕ → Result Template ApertureError
-template_of bytes = named (before_first is_comma bytes)
+-- the name of a text stands before the first comma
+abbrev pub name_in : List ℕ → List ℕ
+name_in bytes = before_first is_comma bytes
+
+-- the template of a text
+unfoldable pub template_of : List ℕ → Option Template
+template_of bytes = named (name_in bytes)
 
 -- a number that is read, or no aperture
 abbrev pub a_value : Result ℤ NumError → Result ℤ ApertureError
@@ -69,6 +73,15 @@ values_in bytes = values_of (slice_split is_times bytes)
 unfoldable pub values_behind : List ℕ → Result (List ℤ) ApertureError
 values_behind bytes = values_in (after_first is_comma bytes)
 
+-- the arguments of a macro behind a comma; none where there is no comma
+abbrev pub arguments_behind : List ℕ → Option ℕ → Result (List ℤ) ApertureError
+arguments_behind bytes None = Ok []
+arguments_behind bytes (Some i) = values_in (drop (i + 1) bytes)
+
+-- the arguments of a macro in a text
+unfoldable pub arguments_of : List ℕ → Result (List ℤ) ApertureError
+arguments_of bytes = arguments_behind bytes (position is_comma bytes)
+
 -- a size: a value that is not below 0
 abbrev pub not_below : ℤ → Result ℕ ApertureError
 not_below (pos n) = Ok n
@@ -82,10 +95,10 @@ sizes_of (value ∷ values) = do
   sizes ← sizes_of values
   Ok (size ∷ sizes)
 
--- a number of vertices in 10^-9: a whole number from 3 to 12
-unfoldable pub count_of : ℕ → Result ℕ ApertureError
-count_of size =
-    if size % 1000000000 == 0 && nat_le 3 (size / 1000000000) && nat_le (size / 1000000000) 12 then Ok (size / 1000000000) else Err Syntax
+-- a number of points or vertices in 10^-9: a whole number of at least 3 and at most `most`
+unfoldable pub count_of : ℕ → ℕ → Result ℕ ApertureError
+count_of most size =
+    if size % 1000000000 == 0 && nat_le 3 (size / 1000000000) && nat_le (size / 1000000000) most then Ok (size / 1000000000) else Err Syntax
 
 -- an angle in 10^-9 of a degree, in millionths: cut, and in the first turn
 unfoldable pub turn_of : ℤ → ℕ

@@ -3,6 +3,7 @@ ghost use Rattle.std.specs.Prelude.{◌≡◌, IfSome};
 ghost use Rattle.shape_parts.specs.Parts.{IsWidth};
 ghost use Rattle.apertures.specs.declared.aperture.ApertureError.TheVariants.{Memory};
 
+use macro_eval::MacroFault;
 use shape_parts::Shape;
 use std::alloc::AllocError;
 use std::error::Error;
@@ -23,10 +24,10 @@ pub enum Unit {
 pub enum ApertureError {
     /// The text is outside the grammar of apertures.
     Syntax,
-    /// The template isn't built yet.
-    NotBuiltYet,
     /// The hole is a rectangle.
     Unsupported,
+    /// What is wrong with the macro for these arguments.
+    Macro(MacroFault),
     /// A size is above 1,000,000,000 nm, or a point above 500,000,000 nm.
     OutOfRange,
     /// The memory doesn't suffice.
@@ -37,8 +38,8 @@ impl fmt::Display for ApertureError {
     fn fmt<W: fmt::Write>(&self, f: &mut fmt::Formatter<W>) -> fmt::Result {
         match self {
             ApertureError::Syntax => write!(f, "no aperture"),
-            ApertureError::NotBuiltYet => write!(f, "a template that isn't built yet"),
             ApertureError::Unsupported => write!(f, "a rectangular hole"),
+            ApertureError::Macro(fault) => write!(f, "a macro with {fault}"),
             ApertureError::OutOfRange => write!(f, "a size or a point past the range"),
             ApertureError::Memory => write!(f, "out of memory"),
         }

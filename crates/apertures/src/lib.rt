@@ -1,20 +1,26 @@
 //! The apertures of a Gerber file: what the text of a definition stands for, and the shape of an aperture
-//! at a place, mirrored and turned. Circles, obrounds, rectangles and regular polygons are built, with round
-//! holes. The commands of a file are no matter of this crate; a further template adds cases to specs/Texts and
-//! specs/Defined.
+//! at a place, mirrored and turned. Circles, obrounds, rectangles and regular polygons with round holes are built,
+//! and the primitives of macros. The commands of a file and the text of a macro are no matter of this crate; a
+//! further template adds cases to specs/Texts and specs/Defined, a further primitive to specs/Primitives.
 #![tactic(auto)]
 
 ghost use Rattle.apertures.specs.Origin.{OriginLaw};
 ghost use Rattle.apertures.specs.Spelled.{TextLaw};
 
 mod aperture;
+mod fields;
+mod lines;
+mod macros;
 mod outlines;
 mod parts;
 mod place;
+mod primitives;
 mod templates;
 mod texts;
+mod turns;
 
 pub use aperture::{Aperture, ApertureError, Unit, stroke};
+pub use macros::{Macros, NamedMacro};
 pub use place::{Mirror, shape_at};
 pub use templates::define;
 pub use texts::length_of;

@@ -8,6 +8,7 @@ ghost use Rattle.apertures.specs.Outlines.{corners as corners_of, vertex_angle a
 
 use board_base::Point;
 use fixed_num::{cosine, round_div, sine};
+use number_laws::product;
 use std::alloc::{AllocError, Global};
 
 // Half of a length, rounded up.
@@ -52,13 +53,13 @@ fn vertex_angle(n: u64, turn: u64, k: u64) -> i64
 }
 
 // A diameter times a sine.
-fn times(d: i64, sine: i64) -> i128
+fn by_sine(d: i64, sine: i64) -> i128
     requires d { IsWidth d }
     requires sine { unsigned_abs sine ≤ 1000000000000 }
     ensures value { result ≡ d *ℤ sine }
     ensures size { unsigned_abs result ≤ 1000000000000000000000 }
 {
-    d as i128 * sine as i128
+    product(d, sine)
 }
 
 // Half of a diameter times a sine.
@@ -69,7 +70,7 @@ fn half_times(d: i64, sine: i64) -> i64
     ensures value { result ≡ half_times_of d sine }
     ensures inside { IsCoordinate result }
 {
-    round_div(times(d, sine), 2_000_000_000_000) as i64
+    round_div(by_sine(d, sine), 2_000_000_000_000) as i64
 }
 
 // The point at an angle on the circle of diameter `d`.

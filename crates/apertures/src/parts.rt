@@ -54,10 +54,10 @@ pub(crate) fn capsule(w: i64, h: i64) -> Part
 }
 
 // An area of one loop. It fails only without memory.
-fn area(alloc: Global, points: &[Point]) -> Result<Part, AllocError>
+pub(crate) fn area(alloc: Global, points: &[Point]) -> Result<Part, AllocError>
     requires places { All IsPlace points.now }
     requires low { 3 ≤ length points.now }
-    requires high { length points.now ≤ 12 }
+    requires high { length points.now ≤ 5000 }
     ensures value { IfOk result (λ p. p ≡ Area (points.now ∷ [])) }
     ensures bounded { IfOk result IsBounded }
 {

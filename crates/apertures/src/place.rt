@@ -6,6 +6,7 @@ ghost use Rattle.apertures.specs.Placed.{mirrored as mirrored_of, turned as turn
 
 use crate::aperture::{Aperture, ApertureError};
 use board_base::Point;
+use number_laws::sum;
 use plane_arcs::{point_at, rotate};
 use poly_area::Motion;
 use shape_parts::Shape;
@@ -50,20 +51,13 @@ fn turned(p: Point, angle: i64) -> Option<Point>
     }
 }
 
-// The sum of two coordinates.
-fn plus(a: i64, b: i64) -> i128
-    ensures { result ≡ a +ℤ b }
-{
-    a as i128 + b as i128
-}
-
 // The point shifted.
 #[tactic(auto, unfolding(crate::specs::Placed::shifted))]
 fn shifted(p: Point, by: Point) -> Option<Point>
     ensures value { result ≡ shifted_of by p }
     ensures inside { IfSome result IsPlace }
 {
-    point_at(plus(p.x, by.x), plus(p.y, by.y))
+    point_at(sum(p.x, by.x), sum(p.y, by.y))
 }
 
 // Where a point of a shape at the origin comes to.

@@ -8,6 +8,7 @@ ghost use Rattle.apertures.specs.Texts.{IsSize, IsValue};
 ghost use Rattle.apertures.specs.Defined.{solid as solid_of, hole as hole_of, circle_of, obround_of, rectangle_of, pierced_polygon as pierced_polygon_of, polygon_at as polygon_at_of, polygon_of, figure_of, defined};
 
 use crate::aperture::{Aperture, ApertureError, Unit};
+use crate::macros::{Macros, by_macro};
 use crate::parts::{capsule, disc, polygon as polygon_part, rectangle as rectangle_part};
 use crate::texts::{
     Template, count_of, size_of, sizes_of, template_of, turn_of, values_behind, width_of,
@@ -157,7 +158,7 @@ fn polygon_at(
 {
     let size = size_of(across)?;
     let corners = size_of(count)?;
-    let n = count_of(corners)?;
+    let n = count_of(corners, 12)?;
     let inner = sizes_of(alloc, holes)?;
     pierced_polygon(alloc, size, n, turn_of(angle), &inner, unit)
 }
@@ -196,22 +197,34 @@ fn figure(
     }
 }
 
-/// The aperture of the bytes that follow `ADDnn`, without the last star, as `C,0.5X0.2`. Its sizes are decimals
-/// in the unit, cut to 10^-9 of it and then rounded to whole nanometres, half up; the angle of a polygon is one
-/// in degrees, cut to millionths of a degree.
+/// The aperture of the bytes that follow `ADDnn`, without the last star, as `C,0.5X0.2` (Ucamco Gerber Layer Format
+/// Specification, 4.3 to 4.5). Its sizes are decimals in the unit, cut to 10^-9 of it and then rounded to whole
+/// nanometres, half up; the angle of a polygon is one in degrees, cut to millionths of a degree. A name other than
+/// `C`, `O`, `R` and `P` is that of a macro, of which the last one counts; the values behind it are its arguments. Its
+/// shape is made here, once.
 ///
 /// # Errors
 ///
-/// In this order: `NotBuiltYet` for a name other than `C`, `O`, `R` and `P`, whatever follows it; `Syntax` where
-/// the bytes are outside the grammar, a size is below 0, or a polygon's number of vertices, cut to 10^-9, isn't a
-/// whole number from 3 to 12; `Unsupported` for a hole of two sizes; `OutOfRange` for a size above
-/// 1,000,000,000 nm. `Memory`, where the memory doesn't suffice, may come in place of any.
+/// In this order: `Syntax` where the bytes are outside the grammar, no macro has the name, a size is below 0, or a
+/// polygon's number of vertices, cut to 10^-9, isn't a whole number from 3 to 12; `Unsupported` for a hole of two
+/// sizes; `Macro` where the macro has a fault for these arguments; `OutOfRange` for a size above 1,000,000,000 nm, or
+/// where a point of a macro's shape is above 500,000,000 nm in size in the end. `Memory`, where the memory doesn't
+/// suffice, may come in place of any.
 #[tactic(auto, unfolding(crate::specs::Defined::defined))]
-pub fn define(alloc: Global, bytes: &[u8], unit: Unit) -> Result<Aperture, ApertureError>
-    ensures { MatchResult result (λ a. defined unit bytes.now ≡ Ok a)
-        (λ e. (e ≡ Memory) ⊎ (defined unit bytes.now ≡ Err e)) }
+pub fn define(
+    alloc: Global,
+    bytes: &[u8],
+    unit: Unit,
+    macros: &Macros,
+) -> Result<Aperture, ApertureError>
+    ensures { MatchResult result (λ a. defined unit macros.now bytes.now ≡ Ok a)
+        (λ e. (e ≡ Memory) ⊎ (defined unit macros.now bytes.now ≡ Err e)) }
 {
-    let template = template_of(bytes)?;
-    let values = values_behind(alloc, bytes)?;
-    figure(alloc, template, &values, unit)
+    match template_of(bytes) {
+        Some(template) => {
+            let values = values_behind(alloc, bytes)?;
+            figure(alloc, template, &values, unit)
+        }
+        None => by_macro(alloc, bytes, unit, macros),
+    }
 }

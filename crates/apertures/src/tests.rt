@@ -2,7 +2,8 @@
 ghost use Rattle.board_base.specs.Places.{IsNearPlace};
 
 use super::*;
-use board_base::{Bounds, Point};
+use board_base::{Bounds, Items, Point};
+use macro_eval::{MacroFault, read_macro};
 use shape_parts::{Part, Shape};
 use std::alloc::{AllocError, Global};
 use std::process::Abort;
@@ -50,7 +51,7 @@ fn defines(
     parts: &[Seen],
     width: Option<i64>,
 ) -> Result<(), Fail> {
-    let a = define(alloc, bytes, unit)?;
+    let a = define(alloc, bytes, unit, &Macros::empty(alloc))?;
     assert_eq!(rt; seen(alloc, &a.shape)?.as_slice(), parts);
     assert_eq!(rt; stroke(&a), width);
     Ok(())
@@ -152,6 +153,7 @@ fn polygons_are_defined(rt: HostRuntime) -> Result<(), Fail> {
 #[test]
 fn others_are_refused(rt: HostRuntime) {
     let alloc = rt.alloc();
+    let macros = Macros::empty(alloc);
     for (bytes, fault) in [
         (b"".as_slice(), ApertureError::Syntax),
         (b",1", ApertureError::Syntax),
@@ -177,8 +179,8 @@ fn others_are_refused(rt: HostRuntime) {
         (b"P,1X2X0X1X1", ApertureError::Syntax),
         (b"P,1X6X0X1X-1", ApertureError::Syntax),
         (b"P,1X6X0X1X1X1", ApertureError::Syntax),
-        (b"Q,1", ApertureError::NotBuiltYet),
-        (b"RoundRect", ApertureError::NotBuiltYet),
+        (b"Q,1", ApertureError::Syntax),
+        (b"RoundRect", ApertureError::Syntax),
         (b"C,1X1X1", ApertureError::Unsupported),
         (b"C,2000X1X1", ApertureError::Unsupported),
         (b"O,1X1X1X1", ApertureError::Unsupported),
@@ -191,7 +193,7 @@ fn others_are_refused(rt: HostRuntime) {
         (b"P,1000.1X6", ApertureError::OutOfRange),
         (b"P,1X6X-15.5X1000.1", ApertureError::OutOfRange),
     ] {
-        let refused = define(alloc, bytes, Unit::Mm).err();
+        let refused = define(alloc, bytes, Unit::Mm, &macros).err();
         assert_eq!(rt; refused, Some(fault), "{bytes:?}");
     }
 }
@@ -208,7 +210,7 @@ fn at(x: i16, y: i16) -> Point
 
 // An obround of 2 mm by 0.1 mm with its middle at (1, 2) mm.
 fn bar(alloc: Global, mirror: Mirror, angle: i64) -> Result<Shape, Fail> {
-    let a = define(alloc, b"O,2X0.1", Unit::Mm)?;
+    let a = define(alloc, b"O,2X0.1", Unit::Mm, &Macros::empty(alloc))?;
     Ok(shape_at(alloc, &a, at(1_000, 2_000), mirror, angle)?)
 }
 
@@ -240,7 +242,7 @@ fn shapes_are_mirrored_and_then_turned(rt: HostRuntime) -> Result<(), Fail> {
 #[test]
 fn areas_are_turned(rt: HostRuntime) -> Result<(), Fail> {
     let alloc = rt.alloc();
-    let a = define(alloc, b"P,1X4", Unit::Mm)?;
+    let a = define(alloc, b"P,1X4", Unit::Mm, &Macros::empty(alloc))?;
     let shape = shape_at(alloc, &a, at(0, 0), Mirror::Keep, 45_000_000)?;
     let turned = four(
         (353_553, 353_553),
@@ -264,7 +266,7 @@ fn areas_are_turned(rt: HostRuntime) -> Result<(), Fail> {
 #[test]
 fn holes_take_away(rt: HostRuntime) -> Result<(), Fail> {
     let alloc = rt.alloc();
-    let a = define(alloc, b"C,0.5X0.2", Unit::Mm)?;
+    let a = define(alloc, b"C,0.5X0.2", Unit::Mm, &Macros::empty(alloc))?;
     let shape = shape_at(alloc, &a, at(100, 0), Mirror::Keep, 0)?;
     for (x, want) in [
         (100_i16, false),
@@ -281,7 +283,7 @@ fn holes_take_away(rt: HostRuntime) -> Result<(), Fail> {
 #[test]
 fn shapes_stay_in_the_range(rt: HostRuntime) -> Result<(), Fail> {
     let alloc = rt.alloc();
-    let a = define(alloc, b"O,1X0.5", Unit::Mm)?;
+    let a = define(alloc, b"O,1X0.5", Unit::Mm, &Macros::empty(alloc))?;
     for (x, y, refused) in [
         (499_750_000_i64, -500_000_000_i64, None),
         (499_750_001, 0, Some(ApertureError::OutOfRange)),
@@ -302,15 +304,93 @@ fn shapes_stay_in_the_range(rt: HostRuntime) -> Result<(), Fail> {
     Ok(())
 }
 
+// The pieces of an aperture of a macro `M` with this body.
+fn painted(alloc: Global, body: &[u8], bytes: &[u8]) -> Result<Vec<Seen>, Fail> {
+    let mut macros = Macros::empty(alloc);
+    macros.push(NamedMacro {
+        name: Items::of(b"M".to_vec(alloc)?),
+        body: read_macro(alloc, body)?,
+    })?;
+    let a = define(alloc, bytes, Unit::Mm, &macros)?;
+    Ok(seen(alloc, &a.shape)?)
+}
+
 #[test]
-fn sizes_are_rounded(rt: HostRuntime) {
-    for (size, unit, length) in [
-        (1_499_u128, Unit::Mm, 1_i128),
-        (1_500, Unit::Mm, 2),
-        (1_000_000_000, Unit::Inch, 25_400_000),
-        (20, Unit::Inch, 1),
-        (19, Unit::Inch, 0),
+fn an_octagon_macro_is_defined(rt: HostRuntime) -> Result<(), Fail> {
+    let parts = painted(rt.alloc(), b"5,1,8,0,0,1.08239X$1,22.5", b"M,1")?;
+    assert_eq!(rt; parts.len(), 8);
+    assert_eq!(rt;
+        parts[0],
+        (true, (499_999, 207_106), (207_106, 499_999), -1)
+    );
+    Ok(())
+}
+
+#[test]
+fn a_rounded_rectangle_is_defined(rt: HostRuntime) -> Result<(), Fail> {
+    let body = b"4,1,4,$2,$3,$4,$5,$6,$7,$8,$9,$2,$3,0\
+        *1,1,$1+$1,$2,$3*1,1,$1+$1,$4,$5*1,1,$1+$1,$6,$7*1,1,$1+$1,$8,$9\
+        *20,1,$1+$1,$2,$3,$4,$5,0*20,1,$1+$1,$4,$5,$6,$7,0\
+        *20,1,$1+$1,$6,$7,$8,$9,0*20,1,$1+$1,$8,$9,$2,$3,0";
+    let bytes = b"M,0.25X-0.5X0.25X-0.5X-0.25X0.5X-0.25X0.5X0.25X0";
+    let parts = painted(rt.alloc(), body, bytes)?;
+    let [w, s, e, n] = [
+        (-500_000, 250_000),
+        (-500_000, -250_000),
+        (500_000, -250_000),
+        (500_000, 250_000),
+    ];
+    let discs = [w, s, e, n].map(|c| (true, c, c, 500_000));
+    assert_eq!(rt; parts.len(), 24);
+    assert_eq!(rt; &parts[..4], four(w, s, e, n).as_slice());
+    assert_eq!(rt; &parts[4..8], discs.as_slice());
+    // Half of the width, 250,000 nm, to either side of the left edge.
+    let left = four(
+        (-250_000, 250_000),
+        (-250_000, -250_000),
+        (-750_000, -250_000),
+        (-750_000, 250_000),
+    );
+    assert_eq!(rt; &parts[8..12], left.as_slice());
+    Ok(())
+}
+
+#[test]
+fn a_thermal_is_on_and_off(rt: HostRuntime) -> Result<(), Fail> {
+    let parts = painted(rt.alloc(), b"7,0,0,1,0.5,0.2,90", b"M")?;
+    let first = [disc(true, 1_000_000), disc(false, 500_000)];
+    assert_eq!(rt; parts.len(), 10);
+    assert_eq!(rt; &parts[..2], first.as_slice());
+    // The upright bar, 0.2 mm by 1 mm, lies down after the turn.
+    assert_eq!(rt;
+        parts[2],
+        (false, (-500_000, 100_000), (-500_000, -100_000), -1)
+    );
+    Ok(())
+}
+
+#[test]
+fn macros_have_their_faults(rt: HostRuntime) -> Result<(), Fail> {
+    let alloc = rt.alloc();
+    for (body, bytes, fault) in [
+        (
+            b"1,1,$1/0,0,0".as_slice(),
+            b"M,1".as_slice(),
+            Some(ApertureError::Macro(MacroFault::ZeroDivisor)),
+        ),
+        (b"1,1,1,0,0", b"N", Some(ApertureError::Syntax)),
+        (b"1,1,1,0,0", b"M,", Some(ApertureError::Syntax)),
+        (b"1,1,1,600,0", b"M", Some(ApertureError::OutOfRange)),
+        (b"1,1,1000.1,0,0", b"M", Some(ApertureError::OutOfRange)),
+        (b"1,1,1,600,0,45", b"M", None),
     ] {
-        assert_eq!(rt; length_of(size, unit), length, "{size}");
+        let mut macros = Macros::empty(alloc);
+        macros.push(NamedMacro {
+            name: Items::of(b"M".to_vec(alloc)?),
+            body: read_macro(alloc, body)?,
+        })?;
+        let refused = define(alloc, bytes, Unit::Mm, &macros).err();
+        assert_eq!(rt; refused, fault, "{body:?}");
     }
+    Ok(())
 }

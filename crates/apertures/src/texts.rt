@@ -3,7 +3,7 @@ ghost use Rattle.std.specs.Prelude.{◌≡◌, ◌<◌, ◌≤◌, ◌+◌, ◌�
 ghost use Rattle.std.specs.List.{All, position, before_first, after_first, slice_split};
 ghost use Rattle.shape_parts.specs.Parts.{IsWidth};
 ghost use Rattle.apertures.specs.declared.aperture.ApertureError.TheVariants.{Memory};
-ghost use Rattle.apertures.specs.Texts.{is_comma, is_times, IsSize, IsValue, named as named_of, template_of as template_in, value_of as value_in, values_in as values_between, values_behind as values_of_text, not_below, sizes_of as sizes_among, count_of as count_in, turn_of as turn_in, length_of as length_of_size, width_of as width_of_size};
+ghost use Rattle.apertures.specs.Texts.{is_comma, is_times, IsSize, IsValue, named as named_of, name_in, template_of as template_in, value_of as value_in, values_in as values_between, values_behind as values_of_text, arguments_of as arguments_of_text, not_below, sizes_of as sizes_among, count_of as count_in, turn_of as turn_in, length_of as length_of_size, width_of as width_of_size};
 
 use crate::aperture::{ApertureError, Unit};
 use fixed_num::{cut_decimal, round_div};
@@ -23,16 +23,15 @@ pub(crate) enum Template {
 }
 
 // The template of a name.
-fn named(name: &[u8]) -> Result<Template, ApertureError>
-    ensures { MatchResult result (λ t. named_of name.now ≡ Ok t) (λ e. named_of name.now ≡ Err e) }
+fn named(name: &[u8]) -> Option<Template>
+    ensures { result ≡ named_of name.now }
 {
     match name {
-        [] => Err(ApertureError::Syntax),
-        [b'C'] => Ok(Template::Circle),
-        [b'O'] => Ok(Template::Obround),
-        [b'R'] => Ok(Template::Rectangle),
-        [b'P'] => Ok(Template::Polygon),
-        _ => Err(ApertureError::NotBuiltYet),
+        [b'C'] => Some(Template::Circle),
+        [b'O'] => Some(Template::Obround),
+        [b'R'] => Some(Template::Rectangle),
+        [b'P'] => Some(Template::Polygon),
+        _ => None,
     }
 }
 
@@ -44,8 +43,8 @@ fn comma_in(bytes: &[u8]) -> Option<usize>
 }
 
 // What stands before the first comma, or all.
-fn name_of(bytes: &[u8]) -> &[u8]
-    ensures { result.now ≡ before_first is_comma bytes.now }
+pub(crate) fn name_of(bytes: &[u8]) -> &[u8]
+    ensures { result.now ≡ name_in bytes.now }
 {
     match comma_in(bytes) {
         Some(i) => &bytes[..i],
@@ -65,8 +64,8 @@ fn behind_name(bytes: &[u8]) -> &[u8]
 
 // The template of a text.
 #[tactic(auto, unfolding(crate::specs::Texts::template_of))]
-pub(crate) fn template_of(bytes: &[u8]) -> Result<Template, ApertureError>
-    ensures { MatchResult result (λ t. template_in bytes.now ≡ Ok t) (λ e. template_in bytes.now ≡ Err e) }
+pub(crate) fn template_of(bytes: &[u8]) -> Option<Template>
+    ensures { result ≡ template_in bytes.now }
 {
     named(name_of(bytes))
 }
@@ -91,7 +90,7 @@ fn times_in(bytes: &[u8]) -> Option<usize>
 }
 
 // Adds an item at the end.
-fn add<T: Drop>(items: &mut Vec<T>, item: T) -> Result<(), AllocError>
+pub(crate) fn add<T: Drop>(items: &mut Vec<T>, item: T) -> Result<(), AllocError>
     ensures { OnOk result (items.new.items ≡ items.old.items ++ item ∷ []) }
 {
     items.push(item)?;
@@ -155,6 +154,18 @@ pub(crate) fn values_behind(alloc: Global, bytes: &[u8]) -> Result<Vec<i128>, Ap
     values_in(alloc, behind_name(bytes))
 }
 
+// The arguments of a macro: none where no comma stands behind its name.
+#[tactic(auto, unfolding(crate::specs::Texts::arguments_of))]
+pub(crate) fn arguments_of(alloc: Global, bytes: &[u8]) -> Result<Vec<i128>, ApertureError>
+    ensures { MatchResult result (λ values. arguments_of_text bytes.now ≡ Ok values.items)
+        (λ e. (e ≡ Memory) ⊎ (arguments_of_text bytes.now ≡ Err e)) }
+{
+    match comma_in(bytes) {
+        Some(i) => values_in(alloc, behind(bytes, i)),
+        None => Ok(Vec::new(alloc)),
+    }
+}
+
 // A value as a size.
 pub(crate) fn size_of(value: i128) -> Result<u128, ApertureError>
     requires { IsValue value }
@@ -183,15 +194,15 @@ pub(crate) fn sizes_of(alloc: Global, values: &[i128]) -> Result<Vec<u128>, Aper
     Ok(sizes)
 }
 
-// A number of vertices, from a size.
+// A number of points or vertices, from a size.
 #[tactic(auto, unfolding(crate::specs::Texts::count_of))]
-pub(crate) fn count_of(size: u128) -> Result<u64, ApertureError>
-    ensures value { MatchResult result (λ n. count_in size ≡ Ok n) (λ e. count_in size ≡ Err e) }
+pub(crate) fn count_of(size: u128, most: u64) -> Result<u64, ApertureError>
+    ensures value { MatchResult result (λ n. count_in most size ≡ Ok n) (λ e. count_in most size ≡ Err e) }
     ensures low { IfOk result (λ n. 3 ≤ n) }
-    ensures high { IfOk result (λ n. n ≤ 12) }
+    ensures high { IfOk result (λ n. n ≤ most) }
 {
     let count = size / 1_000_000_000;
-    if size % 1_000_000_000 == 0 && 3 <= count && count <= 12 {
+    if size % 1_000_000_000 == 0 && 3 <= count && count <= most as u128 {
         Ok(count as u64)
     } else {
         Err(ApertureError::Syntax)

@@ -10,6 +10,8 @@ mod jobs;
 #[cfg(test)]
 mod lexer;
 #[cfg(test)]
+mod macros;
+#[cfg(test)]
 mod programs;
 #[cfg(test)]
 mod reading;
