@@ -8,3 +8,4 @@ pub mod ReadyLaws
 pub mod ReachedLaws
 pub mod OneOutcome
 pub mod OutcomeLaws
+pub mod MacroLaws

@@ -4,7 +4,7 @@ use Rattle.number_laws.proofs.Tests.{by_bool}
 use Rattle.gerber_lexer.specs.declared.lexer.Span.{Span}
 use Rattle.gerber_image.specs.Laws.{OneOutcome, StaysSet, EachStaysSet}
 use Rattle.gerber_words.specs.declared.commands.Command.{Command}
-use Rattle.gerber_image.specs.InForce.{sets_format, sets_unit, sets_dark, sets_mirror, sets_angle, sets_mode, sets_multi_quadrant, sets_region, sets_selected, sets_act, sets_aperture, sets_x, sets_y, sets_repeat, format_at, unit_at}
+use Rattle.gerber_image.specs.InForce.{sets_format, sets_unit, sets_dark, sets_mirror, sets_angle, sets_mode, sets_multi_quadrant, sets_region, sets_selected, sets_act, sets_aperture, sets_x, sets_y, sets_repeat, format_at, unit_at, macros_at, sets_macro}
 use Rattle.gerber_image.specs.Gerber.{Read, Outcome, BeginsWith, next_behind, command_by, outcome_behind}
 
 -- the commands before the last few
@@ -75,7 +75,8 @@ each_stays_set = record {
   multi_quadrant = stays_set (λ _. sets_multi_quadrant);
   region = stays_set (λ _. sets_region);
   selected = stays_set (λ _. sets_selected);
-  aperture = λ number. stays_set (λ past. sets_aperture number (unit_at past));
+  macro = λ name. stays_set (λ _. sets_macro name);
+  aperture = λ number. stays_set (λ past. sets_aperture number (unit_at past) (macros_at past));
   x = stays_set (λ past. sets_x (format_at past) (unit_at past));
   y = stays_set (λ past. sets_y (format_at past) (unit_at past));
   act = stays_set (λ _. sets_act);

@@ -3,8 +3,9 @@ use Rattle.std.proofs.Common.{◌≡◌, refl, ℕ, suc, ◌+◌, ◌*◌, ◌/�
 use Rattle.std.specs.Prelude.{◌&&◌, cond}
 use Rattle.std.proofs.lemmas.Int.{ints}
 use Rattle.board_base.specs.declared.places.Point.{Point}
-use Rattle.board_base.specs.Places.{IsPlace, IsCoordinate}
+use Rattle.board_base.specs.Places.{IsPlace}
 use Rattle.fixed_num.specs.Rounding.{rounded, round_div_of}
+use Rattle.plane_arcs.proofs.RangeLaws.{inside_place}
 use Rattle.plane_arcs.specs.Turned.{in_range, point_at}
 use Rattle.apertures.specs.declared.aperture.Unit.{Unit}
 use Rattle.apertures.specs.declared.aperture.Unit.TheVariants.{Mm, Inch}
@@ -20,21 +21,9 @@ use Rattle.gerber_words.proofs.NumeralLaws.{some_digits}
 use Rattle.std.proofs.Common.{pow-add}
 use Rattle.std.proofs.Math.Nat.{pow-le-pow_right, mul-le-mul_right}
 
-in_coordinates : (v : ℤ) → in_range v ≡ true → IsCoordinate v
-unfolding in_range
-in_coordinates v e = record { low = grind (arith, ints, e); high = grind (arith, ints, e) }
-
-and_true : (a b : Bool) → (a && b) ≡ true → (a ≡ true) × (b ≡ true)
-and_true true b e = (refl, e)
-and_true false b e = absurd (grind (arith, e))
-
--- a point whose coordinates are in the range is a place
-pub near_is_place : (p : Point) → (in_range p.x && in_range p.y) ≡ true → IsPlace p
-near_is_place p e = let both = and_true (in_range p.x) (in_range p.y) e in record { x = in_coordinates p.x both.0; y = in_coordinates p.y both.1 }
-
 chosen : (p : Point) (b : Bool) → (in_range p.x && in_range p.y) ≡ b → (r : Option Point) → r ≡ cond b (Some p) None
     → MatchOption r (not b ≡ true) (λ q. (not b ≡ false) × (q ≡ p) × IsPlace q)
-chosen p true e (Some q) f = let same : q ≡ p = cc in (refl, same, rw same (near_is_place p e))
+chosen p true e (Some q) f = let same : q ≡ p = cc in (refl, same, rw same (inside_place p e))
 chosen p true e None f = absurd cc
 chosen p false e (Some q) f = absurd cc
 chosen p false e None f = refl

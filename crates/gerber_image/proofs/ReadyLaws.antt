@@ -58,6 +58,9 @@ ready_select h number r = record { within = r.within; format = r.format; repeat 
 pub ready_define : (h : Held) (number : ℕ) (template : List ℕ) → IsReady h → IsReady (after h (commands.Define number template))
 ready_define h number template r = record { within = r.within; format = r.format; repeat = r.repeat; here = r.here }
 
+pub ready_macro : (h : Held) (name body : List ℕ) → IsReady h → IsReady (after h (commands.DefineMacro name body))
+ready_macro h name body r = record { within = r.within; format = r.format; repeat = r.repeat; here = r.here }
+
 -- regions
 
 pub ready_begin : (h : Held) → IsReady h → IsReady (after h commands.BeginRegion)

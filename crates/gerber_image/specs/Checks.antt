@@ -1,5 +1,5 @@
 -- The checks of a command, in their order.
-use Rattle.std.specs.Prelude.{◌+◌, ◌||◌, pos, Bool, true, false, List, [], ◌∷◌, length, Option, Some, None, is_some, is_none, Result, Err, ◌==◌, if◌then◌else◌, ◌&&◌, not, nat_lt}
+use Rattle.std.specs.Prelude.{◌+◌, ◌||◌, pos, Bool, true, false, List, [], ◌∷◌, length, Option, Some, None, is_some, is_none, Result, Ok, Err, unwrap_or, ◌==◌, if◌then◌else◌, ◌&&◌, not, nat_lt}
 use Rattle.std.specs.Option.{option_or}
 use Rattle.std.specs.List.{list_any}
 use Rattle.board_base.specs.declared.places.Point.{Point}
@@ -10,6 +10,10 @@ use Rattle.plane_arcs.specs.declared.arcs.ArcError.TheVariants as arc_errors
 use Rattle.shape_parts.specs.declared.shape.Part.TheVariants.{Disc, Capsule, Area}
 use Rattle.shape_parts.specs.declared.shape.Piece.{Piece}
 use Rattle.shape_parts.specs.declared.shape.Painted.{Painted}
+use Rattle.macro_eval.specs.Trees.{Statement}
+use Rattle.macro_eval.specs.Body.{macro_of}
+use Rattle.macro_eval.specs.declared.fault.MacroFault.{MacroFault}
+use Rattle.macro_eval.specs.declared.fault.MacroFault.TheVariants as faults
 use Rattle.apertures.specs.declared.aperture.ApertureError.{ApertureError}
 use Rattle.apertures.specs.declared.aperture.ApertureError.TheVariants as errors
 use Rattle.apertures.specs.declared.aperture.Unit.{Unit}
@@ -67,24 +71,11 @@ is_no_aperture _ = false
 abbrev pub is_misplaced : InForce → Command → Bool
 is_misplaced now (commands.Format format) = not (same_format format now.format)
 is_misplaced now (commands.Unit unit in_block) = not (same_unit unit now.unit)
-is_misplaced now (commands.Define number template) = is_no_aperture (defined_under now.unit template)
+is_misplaced now (commands.Define number template) = is_no_aperture (defined_under now.unit now.macros template)
 is_misplaced now commands.CloseRepeat = is_none now.repeat
 is_misplaced now commands.EndRegion = not now.region
 is_misplaced now (commands.Operate o) = is_none (option_or o.act now.act) || has_long now.format o
 is_misplaced now _ = false
-
--- NotBuiltYet.
-
--- the template of an aperture isn't built yet
-abbrev pub is_unbuilt_aperture : Result Figure ApertureError → Bool
-is_unbuilt_aperture (Err errors.NotBuiltYet) = true
-is_unbuilt_aperture _ = false
-
--- what isn't built yet
-abbrev pub is_unbuilt : InForce → Command → Bool
-is_unbuilt now commands.NotBuiltYet = true
-is_unbuilt now (commands.Define number template) = is_unbuilt_aperture (defined_under now.unit template)
-is_unbuilt now _ = false
 
 -- Unsupported.
 
@@ -114,7 +105,7 @@ lacks_stroke now = not now.region && is_strokeless (figure_of now.selected now.a
 -- what is left out
 abbrev pub is_left_out : InForce → Command → Bool
 is_left_out now commands.Unsupported = true
-is_left_out now (commands.Define number template) = is_unsupported_aperture (defined_under now.unit template)
+is_left_out now (commands.Define number template) = is_unsupported_aperture (defined_under now.unit now.macros template)
 is_left_out now (commands.Operate o) = is_draw (option_or o.act now.act) && (is_short_arc now o || lacks_stroke now)
 is_left_out now _ = false
 
@@ -159,6 +150,7 @@ is_barred now (commands.Polarity dark) = true
 is_barred now (commands.Mirror mirror) = true
 is_barred now (commands.Rotation angle) = true
 is_barred now (commands.Define number template) = true
+is_barred now (commands.DefineMacro name body) = true
 is_barred now (commands.OpenRepeat columns rows dx dy) = true
 is_barred now commands.CloseRepeat = true
 is_barred now commands.DeprecatedSetting = true
@@ -182,6 +174,28 @@ is_open _ = false
 abbrev pub opens_arc : InForce → Command → Bool
 opens_arc now (commands.Operate o) = is_draw (option_or o.act now.act) && is_open (route now o)
 opens_arc now _ = false
+
+-- Macro.
+
+-- what is wrong with a body
+abbrev pub body_fault : Result (List Statement) MacroFault → Option MacroFault
+body_fault (Err fault) = Some fault
+body_fault (Ok body) = None
+
+-- what is wrong with an aperture's macro for its arguments
+abbrev pub argument_fault : Result Figure ApertureError → Option MacroFault
+argument_fault (Err (errors.Macro fault)) = Some fault
+argument_fault _ = None
+
+-- what is wrong with a macro
+abbrev pub macro_fault : InForce → Command → Option MacroFault
+macro_fault now (commands.DefineMacro name body) = body_fault (macro_of body)
+macro_fault now (commands.Define number template) = argument_fault (defined_under now.unit now.macros template)
+macro_fault now _ = None
+
+-- the kind of a macro's fault
+abbrev pub macro_kind : Option MacroFault → GerberKind
+macro_kind fault = kinds.Macro (unwrap_or fault faults.Memory)
 
 -- OutOfRange.
 
@@ -235,7 +249,7 @@ act_leaves _ now o = false
 -- what a command brings past the range
 abbrev pub leaves_range : InForce → List Painted → Command → Bool
 leaves_range now block (commands.Operate o) = is_far (place_after now o) || act_leaves (option_or o.act now.act) now o
-leaves_range now block (commands.Define number template) = is_great (defined_under now.unit template)
+leaves_range now block (commands.Define number template) = is_great (defined_under now.unit now.macros template)
 leaves_range now block commands.CloseRepeat = list_any is_outside (copies now.repeat block)
 leaves_range now block (commands.OpenRepeat columns rows dx dy) = list_any is_outside (copies now.repeat block)
 leaves_range now block _ = false
@@ -257,7 +271,6 @@ held past = record { now = in_force past; outline = outline_at past; block = blo
 abbrev pub first_fault_of : InForce → List Painted → Command → Option GerberKind
 first_fault_of now block command =
     first_fault ((is_misplaced now command, kinds.Syntax)
-    ∷ (is_unbuilt now command, kinds.NotBuiltYet)
     ∷ (is_left_out now command, kinds.Unsupported)
     ∷ (has_coordinate command && is_none now.format, kinds.NoFormat)
     ∷ (needs_unit command && is_none now.unit, kinds.NoUnit)
@@ -265,6 +278,7 @@ first_fault_of now block command =
     ∷ (now.region && is_barred now command, kinds.OpenRegion)
     ∷ (is_end command && is_some now.repeat, kinds.OpenRepeat)
     ∷ (opens_arc now command, kinds.OpenArc)
+    ∷ (is_some (macro_fault now command), macro_kind (macro_fault now command))
     ∷ (leaves_range now block command, kinds.OutOfRange)
     ∷ [])
 

@@ -1,6 +1,11 @@
 -- What is in force at a command. `past` has the commands before it, the nearest first.
-use Rattle.std.specs.Prelude.{ℕ, ◌*◌, ℤ, pos, Bool, true, false, List, [], ◌∷◌, Option, Some, None, unwrap_or, Result, Ok, Err, ◌==◌, if◌then◌else◌, unsigned_abs}
+use Rattle.std.specs.Prelude.{ℕ, ◌*◌, ℤ, pos, Bool, true, false, List, [], ◌∷◌, ◌++◌, Option, Some, None, unwrap_or, Result, Ok, Err, ◌==◌, if◌then◌else◌, unsigned_abs}
 use Rattle.std.specs.Option.{option_or}
+use Rattle.std.specs.Str.{bytes_eq}
+use Rattle.macro_eval.specs.Trees.{Statement}
+use Rattle.macro_eval.specs.Body.{macro_of}
+use Rattle.macro_eval.specs.declared.fault.MacroFault.{MacroFault}
+use Rattle.apertures.specs.declared.macros.NamedMacro.{NamedMacro}
 use Rattle.apertures.specs.declared.aperture.ApertureError.{ApertureError}
 use Rattle.apertures.specs.declared.aperture.Unit.{Unit}
 use Rattle.apertures.specs.declared.aperture.Unit.TheVariants as units
@@ -78,9 +83,29 @@ abbrev pub sets_act : Command → Option Act
 sets_act (commands.Operate o) = o.act
 sets_act _ = None
 
--- the aperture of a text, under the unit in force; where none is, the text is still read as if in millimetres
-abbrev pub defined_under : Option Unit → List ℕ → Result Figure ApertureError
-defined_under unit template = defined (unwrap_or unit units.Mm) template
+-- a macro under its name, where its body can be read
+abbrev pub named_macro : List ℕ → Result (List Statement) MacroFault → List NamedMacro
+named_macro name (Ok body) = record { name = name; body = body } ∷ []
+named_macro name (Err fault) = []
+
+-- the macros behind a command: a definition adds one
+abbrev pub macros_after : List NamedMacro → Command → List NamedMacro
+macros_after macros (commands.DefineMacro name body) = macros ++ named_macro name (macro_of body)
+macros_after macros _ = macros
+
+-- the statements of a body, where it can be read
+abbrev pub statements_in : Result (List Statement) MacroFault → Option (List Statement)
+statements_in (Ok body) = Some body
+statements_in (Err fault) = None
+
+-- the macro with this name
+abbrev pub sets_macro : List ℕ → Command → Option (List Statement)
+sets_macro name (commands.DefineMacro other body) = if bytes_eq other name then statements_in (macro_of body) else None
+sets_macro name _ = None
+
+-- the aperture of a text, under the unit and the macros in force; where no unit is, the text is still read as if in millimetres
+abbrev pub defined_under : Option Unit → List NamedMacro → List ℕ → Result Figure ApertureError
+defined_under unit macros template = defined (unwrap_or unit units.Mm) macros template
 
 -- the aperture, where there is one
 abbrev pub figure_in : Result Figure ApertureError → Option Figure
@@ -88,9 +113,9 @@ figure_in (Ok figure) = Some figure
 figure_in (Err e) = None
 
 -- the aperture with this number
-abbrev pub sets_aperture : ℕ → Option Unit → Command → Option Figure
-sets_aperture number unit (commands.Define other template) = if other == number then figure_in (defined_under unit template) else None
-sets_aperture number unit _ = None
+abbrev pub sets_aperture : ℕ → Option Unit → List NamedMacro → Command → Option Figure
+sets_aperture number unit macros (commands.Define other template) = if other == number then figure_in (defined_under unit macros template) else None
+sets_aperture number unit macros _ = None
 
 -- the coordinate that digits say, by the format and the unit in force
 abbrev pub coordinate_of : Option Format → Option Unit → Option Digits → Option ℤ
@@ -166,9 +191,14 @@ selected_at past = last_set (λ _. sets_selected) past
 abbrev pub act_at : List Command → Option Act
 act_at past = last_set (λ _. sets_act) past
 
+-- no macros at the start
+abbrev pub macros_at : List Command → List NamedMacro
+macros_at [] = []
+macros_at (command ∷ past) = macros_after (macros_at past) command
+
 -- the last definition of a number
 abbrev pub aperture_at : List Command → ℕ → Option Figure
-aperture_at past number = last_set (λ past. sets_aperture number (unit_at past)) past
+aperture_at past number = last_set (λ past. sets_aperture number (unit_at past) (macros_at past)) past
 
 -- the current point is the origin at the start
 abbrev pub x_at : List Command → ℤ
@@ -193,6 +223,7 @@ pub record InForce : Type 0 where
   pub multi_quadrant : Bool
   pub region : Bool
   pub selected : Option ℕ
+  pub macros : List NamedMacro
   pub aperture : ℕ → Option Figure
   pub x : ℤ
   pub y : ℤ
@@ -211,6 +242,7 @@ in_force past = record {
   multi_quadrant = multi_quadrant_at past;
   region = region_at past;
   selected = selected_at past;
+  macros = macros_at past;
   aperture = aperture_at past;
   x = x_at past;
   y = y_at past;

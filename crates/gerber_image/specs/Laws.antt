@@ -1,6 +1,7 @@
 -- Laws of what is in force and of what bytes stand for.
 use Rattle.std.specs.Prelude.{◌≡◌, ℕ, List, [], ◌∷◌, ◌++◌, Option, Some, None, ⊤}
-use Rattle.gerber_image.specs.InForce.{last_set, sets_format, sets_unit, sets_dark, sets_mirror, sets_angle, sets_mode, sets_multi_quadrant, sets_region, sets_selected, sets_act, sets_aperture, sets_x, sets_y, sets_repeat, format_at, unit_at}
+use Rattle.gerber_image.specs.InForce.{last_set, sets_format, sets_unit, sets_dark, sets_mirror, sets_angle, sets_mode, sets_multi_quadrant, sets_region, sets_selected, sets_act, sets_aperture, sets_x, sets_y, sets_repeat, format_at, unit_at, macros_at, sets_macro}
+use Rattle.apertures.specs.Defined.{macro_named}
 use Rattle.gerber_image.specs.Checks.{held}
 use Rattle.gerber_image.specs.State.{after}
 use Rattle.gerber_image.specs.Gerber.{Outcome, StandsFor}
@@ -26,11 +27,16 @@ pub record EachStaysSet : Type 0 where
   pub multi_quadrant : StaysSet (λ _. sets_multi_quadrant)
   pub region : StaysSet (λ _. sets_region)
   pub selected : StaysSet (λ _. sets_selected)
-  pub aperture : (number : ℕ) → StaysSet (λ past. sets_aperture number (unit_at past))
+  pub macro : (name : List ℕ) → StaysSet (λ _. sets_macro name)
+  pub aperture : (number : ℕ) → StaysSet (λ past. sets_aperture number (unit_at past) (macros_at past))
   pub x : StaysSet (λ past. sets_x (format_at past) (unit_at past))
   pub y : StaysSet (λ past. sets_y (format_at past) (unit_at past))
   pub act : StaysSet (λ _. sets_act)
   pub repeat : StaysSet (λ past. sets_repeat (unit_at past))
+
+-- the last definition of a name counts
+abbrev pub LastMacroCounts : Type 0
+LastMacroCounts = (past : List Command) (name : List ℕ) → macro_named name (macros_at past) ≡ last_set (λ _. sets_macro name) past
 
 -- what is kept behind a command is what is in force there, with the contours, the block and the image
 abbrev pub KeepsPace : Type 0

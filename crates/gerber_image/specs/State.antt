@@ -6,7 +6,7 @@ use Rattle.std.specs.List.{list_any}
 use Rattle.std.specs.BTreeMap.{get}
 use Rattle.board_base.specs.Places.{IsPlace}
 use Rattle.apertures.specs.declared.place.Mirror.TheVariants as mirrors
-use Rattle.gerber_image.specs.InForce.{InForce, sets_format, sets_unit, sets_dark, sets_mirror, sets_angle, sets_mode, sets_multi_quadrant, sets_region, sets_selected, sets_act, sets_x, sets_y, sets_aperture, sets_repeat}
+use Rattle.gerber_image.specs.InForce.{InForce, sets_format, sets_unit, sets_dark, sets_mirror, sets_angle, sets_mode, sets_multi_quadrant, sets_region, sets_selected, sets_act, sets_x, sets_y, sets_aperture, sets_repeat, macros_after}
 use Rattle.apertures.specs.Defined.{at}
 use Rattle.gerber_image.specs.Regions.{no_outline}
 use Rattle.gerber_image.specs.Routes.{place_after, route}
@@ -36,6 +36,7 @@ held_of s = record {
     multi_quadrant = s.multi_quadrant;
     region = s.region;
     selected = s.selected;
+    macros = s.macros;
     aperture = λ number. get nat_cmp s.apertures number;
     x = s.here.x;
     y = s.here.y;
@@ -59,7 +60,8 @@ now_after now command = record {
   multi_quadrant = unwrap_or (sets_multi_quadrant command) now.multi_quadrant;
   region = unwrap_or (sets_region command) now.region;
   selected = option_or (sets_selected command) now.selected;
-  aperture = λ number. option_or (sets_aperture number now.unit command) (now.aperture number);
+  macros = macros_after now.macros command;
+  aperture = λ number. option_or (sets_aperture number now.unit now.macros command) (now.aperture number);
   x = unwrap_or (sets_x now.format now.unit command) now.x;
   y = unwrap_or (sets_y now.format now.unit command) now.y;
   act = option_or (sets_act command) now.act;
@@ -118,6 +120,7 @@ nothing = record {
     multi_quadrant = false;
     region = false;
     selected = None;
+    macros = [];
     aperture = λ number. None;
     x = pos 0;
     y = pos 0;

@@ -5,6 +5,7 @@
 #![tactic(auto)]
 
 mod contour;
+mod definitions;
 mod draws;
 mod numbers;
 mod objects;
@@ -13,6 +14,7 @@ mod reader;
 mod refusal;
 mod regions;
 mod repeat;
+mod settings;
 mod state;
 
 pub use reader::{keeps_pace, one_outcome, read_image, some_outcome, stays_set};

@@ -5,7 +5,7 @@ ghost use Rattle.gerber_image.specs.State.{Steps, IsReady, held_of};
 ghost use Rattle.gerber_image.specs.Answer.{Refuses};
 ghost use Rattle.gerber_image.specs.Gerber.{StandsFor};
 ghost use Rattle.gerber_image.specs.Outcome.{AnswersOutcome, SomeOutcome};
-ghost use Rattle.gerber_image.specs.Laws.{OneOutcome, EachStaysSet, KeepsPace};
+ghost use Rattle.gerber_image.specs.Laws.{OneOutcome, EachStaysSet, KeepsPace, LastMacroCounts};
 
 use crate::refusal::{GerberError, GerberKind};
 use crate::state::{State, Stop};
@@ -90,9 +90,11 @@ pub fn some_outcome()
     ensures { SomeOutcome }
 {}
 
-/// What a command has set is in force until another one sets it, for each thing that may be in force.
+/// What a command has set is in force until another one sets it, for each thing that may be in force; of a macro's name the
+/// last definition counts.
 pub fn stays_set()
-    ensures { EachStaysSet }
+    ensures set { EachStaysSet }
+    ensures macros { LastMacroCounts }
 {}
 
 /// What the reader keeps is what is in force.

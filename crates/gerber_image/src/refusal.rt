@@ -1,4 +1,5 @@
 // Why a file has no image.
+use macro_eval::MacroFault;
 use std::error::Error;
 use std::fmt;
 
@@ -7,8 +8,6 @@ use std::fmt;
 pub enum GerberKind {
     /// No command, or one that may not stand here.
     Syntax,
-    /// A macro, or a template other than C, R, O and P.
-    NotBuiltYet,
     /// A command that is left out, an aperture with a rectangular hole, a stroke with an aperture that makes
     /// none, or an arc where arcs may not be longer than a quarter.
     Unsupported,
@@ -24,6 +23,8 @@ pub enum GerberKind {
     OpenRepeat,
     /// An arc whose ends aren't equally far from its centre.
     OpenArc,
+    /// A macro that can't be read or, for the arguments of an aperture, not be evaluated.
+    Macro(MacroFault),
     /// A point past 500,000,000 nm, or a size past 1,000,000,000 nm.
     OutOfRange,
     /// More than 2^20 objects.
@@ -49,7 +50,6 @@ impl fmt::Display for GerberKind {
     fn fmt<W: fmt::Write>(&self, f: &mut fmt::Formatter<W>) -> fmt::Result {
         match self {
             GerberKind::Syntax => write!(f, "no command, or one that may not stand here"),
-            GerberKind::NotBuiltYet => write!(f, "a command that isn't built yet"),
             GerberKind::Unsupported => write!(f, "a command that is left out"),
             GerberKind::NoFormat => write!(f, "a coordinate before the format"),
             GerberKind::NoUnit => write!(f, "a length before the unit"),
@@ -60,6 +60,7 @@ impl fmt::Display for GerberKind {
                 f,
                 "an arc whose ends aren't equally far from its centre"
             ),
+            GerberKind::Macro(fault) => write!(f, "a macro with {fault}"),
             GerberKind::OutOfRange => write!(f, "a point or a size past the range"),
             GerberKind::TooManyObjects => write!(f, "more than 1048576 objects"),
             GerberKind::TooManyVertices => write!(f, "more than 4194304 vertices"),

@@ -32,8 +32,8 @@ abbrev pub plain_of : List ℕ → Option Command
 plain_of text =
     option_or (note_of text)
     (option_or (setting_of text)
-    (option_or (rotation_of text) (option_or (scale_of text) (option_or (repeat_of text) (option_or (macro_of text) (old_of text))))))
+    (option_or (rotation_of text) (option_or (scale_of text) (option_or (repeat_of text) (old_of text)))))
 
 -- an extended command
 abbrev pub extended_of : List ℕ → Option Command
-extended_of text = option_or (plain_of text) (definition_of text)
+extended_of text = option_or (plain_of text) (option_or (macro_of text) (definition_of text))

@@ -1,5 +1,6 @@
 // What commands say. Sections are those of the Gerber Layer Format Specification of Ucamco, revision 2022.02.
 use apertures::{Mirror, Unit};
+use board_base::Items;
 use std::marker::Model;
 
 /// How many digits of a coordinate stand before and behind the point (section 4.2, FS).
@@ -144,8 +145,11 @@ pub enum Command {
     Ignored,
     /// A setting between percent signs that holds without it (chapter 8).
     DeprecatedSetting,
-    /// A macro, section 4.5.
-    NotBuiltYet,
+    /// AM, section 4.5: the name and the body, which is without its last star. A macro without a body has a comment.
+    DefineMacro {
+        name: Items<u8>,
+        body: Items<u8>,
+    },
     /// A command that is left out, as AB (section 4.11).
     Unsupported,
     /// M02, section 4.13.

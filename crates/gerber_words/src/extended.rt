@@ -1,10 +1,12 @@
 // What extended commands say. The text is without its star and without line breaks.
 ghost use Rattle.std.specs.Prelude.{◌≡◌, ◌<◌, ◌||◌, IfSome, Some, None, IfOk};
+ghost use Rattle.std.specs.Option.{option_or};
+ghost use Rattle.gerber_words.specs.Definitions.{macro_of, definition_of};
 ghost use Rattle.gerber_words.specs.Fits.{IsCommand};
 ghost use Rattle.gerber_words.specs.Extended.{begins as begins_in, is_note as is_note_in, note_of, setting_of, plain_of, extended_of};
 
 use crate::commands::Command;
-use crate::definitions::{definition, macro_named};
+use crate::definitions::{definition, macro_definition};
 use crate::deprecated::old;
 use crate::repeats::repeat;
 use crate::settings::{format, mirror, polarity, rotation, scale, unit};
@@ -81,10 +83,18 @@ fn plain(text: &[u8]) -> Option<Command>
     if let Some(command) = repeat(text) {
         return Some(command);
     }
-    if let Some(command) = macro_named(text) {
-        return Some(command);
-    }
     old(text)
+}
+
+// A definition of a macro or of an aperture.
+fn defined(alloc: Global, text: &[u8]) -> Result<Option<Command>, AllocError>
+    ensures value { IfOk result (λ command. command ≡ option_or (macro_of text.now) (definition_of text.now)) }
+    ensures fits { IfOk result (λ command. IfSome command IsCommand) }
+{
+    match macro_definition(alloc, text)? {
+        Some(command) => Ok(Some(command)),
+        None => definition(alloc, text),
+    }
 }
 
 /// What an extended command says. It fails only without memory.
@@ -94,6 +104,6 @@ pub fn extended(alloc: Global, text: &[u8]) -> Result<Option<Command>, AllocErro
 {
     match plain(text) {
         Some(command) => Ok(Some(command)),
-        None => definition(alloc, text),
+        None => defined(alloc, text),
     }
 }

@@ -63,7 +63,6 @@ IsOfImage status = ⊥
 
 refused_of_image : (role : Role) (kind : GerberKind) (at : ℕ) → IsOfImage (refused_as role kind at)
 refused_of_image role kinds.Syntax at = tt
-refused_of_image role kinds.NotBuiltYet at = tt
 refused_of_image role kinds.Unsupported at = tt
 refused_of_image role kinds.NoFormat at = tt
 refused_of_image role kinds.NoUnit at = tt
@@ -71,6 +70,7 @@ refused_of_image role kinds.NoAperture at = tt
 refused_of_image role kinds.OpenRegion at = tt
 refused_of_image role kinds.OpenRepeat at = tt
 refused_of_image role kinds.OpenArc at = tt
+refused_of_image role (kinds.Macro fault) at = tt
 refused_of_image role kinds.OutOfRange at = tt
 refused_of_image role kinds.TooManyObjects at = tt
 refused_of_image role kinds.TooManyVertices at = tt

@@ -1,6 +1,7 @@
 // Small files and what they paint, worked out by hand. Lengths are in nanometres.
 use board_base::Bounds;
 use gerber_image::{GerberError, GerberKind, read_image};
+use macro_eval::MacroFault;
 use std::alloc::{AllocError, Global};
 use std::process::Abort;
 
@@ -210,8 +211,8 @@ fn commands_that_are_refused(rt: HostRuntime) {
         (b"%MOMM*%%ADD10C,-1*%", GerberKind::Syntax, 8),
         (b"G37*", GerberKind::Syntax, 0),
         (b"G36*%SR*%", GerberKind::Syntax, 5),
-        (b"%AMA*1,1,1,0,0*%", GerberKind::NotBuiltYet, 1),
-        (b"%ADD10Q,1*%", GerberKind::NotBuiltYet, 1),
+        (b"%AM*1,1,1,0,0*%", GerberKind::Syntax, 1),
+        (b"%ADD10Q,1*%", GerberKind::Syntax, 1),
         (b"%AB*%", GerberKind::Unsupported, 1),
         (b"%LS2*%", GerberKind::Unsupported, 1),
         (b"%FSTAX46Y46*%", GerberKind::Unsupported, 1),
@@ -258,6 +259,13 @@ fn commands_that_do_not_fit(rt: HostRuntime) {
             28,
         ),
         (b"%MOMM*%%SRX2Y1I1J1*%M02*", GerberKind::OpenRepeat, 20),
+        (
+            b"%MOMM*%%AMA*1,1,$1/0,0,0*%%ADD10A,1*%",
+            GerberKind::Macro(MacroFault::ZeroDivisor),
+            27,
+        ),
+        (b"%AMA**%", GerberKind::Macro(MacroFault::BadExpression), 1),
+        (b"G36*%AMA**%", GerberKind::OpenRegion, 5),
         (b"%MOMM*%%ADD10C,1001*%", GerberKind::OutOfRange, 8),
         (
             b"%FSLAX66Y66*%%MOMM*%%ADD10C,1*%D10*%SRX2Y1I1J0*%X500000000D03*%SR*%",
@@ -282,4 +290,70 @@ fn commands_that_do_not_fit(rt: HostRuntime) {
     ] {
         refuses(&rt, rt.alloc(), bytes, kind, at);
     }
+}
+
+// A file with these macro and aperture definitions flashes one object, whose areas have so many vertices.
+fn flashes(
+    rt: &impl Abort,
+    alloc: Global,
+    definitions: &[&[u8]],
+    vertices: u128,
+    bounds: (i64, i64, i64, i64),
+) {
+    let Ok(bytes) = joined(alloc, definitions) else {
+        panic!(rt; "no memory");
+    };
+    let Ok(commands) = joined(alloc, &[bytes.as_slice(), b"D10*D03*"]) else {
+        panic!(rt; "no memory");
+    };
+    paints_one(rt, alloc, &commands, vertices, bounds);
+}
+
+// The same text many times.
+fn repeated(alloc: Global, text: &[u8], times: usize) -> Result<Vec<u8>, AllocError> {
+    let mut bytes = Vec::new(alloc);
+    for _ in 0..times {
+        bytes.extend_from_slice(text)?;
+    }
+    Ok(bytes)
+}
+
+#[test]
+fn macros(rt: HostRuntime) {
+    let alloc = rt.alloc();
+    let unit = (-500_000, -500_000, 500_000, 500_000);
+    // 1,300 arguments, of which the macro takes the first.
+    let Ok(arguments) = repeated(alloc, b"X1", 1_299) else {
+        panic!(rt; "no memory");
+    };
+    flashes(
+        &rt,
+        alloc,
+        &[b"%AMA*1,1,$1,0,0*%%ADD10A,1".as_slice(), &arguments, b"*%"],
+        0,
+        unit,
+    );
+    // An outline of 5,000 points.
+    let Ok(points) = repeated(alloc, b",1,0", 4_998) else {
+        panic!(rt; "no memory");
+    };
+    flashes(
+        &rt,
+        alloc,
+        &[
+            b"%AMA*4,1,5000,0,0".as_slice(),
+            &points,
+            b",1,1,0,0,0*%%ADD10A*%",
+        ],
+        5_000,
+        (0, 0, 1_000_000, 1_000_000),
+    );
+    // The last definition of a name counts. A line break in its AM is dropped.
+    flashes(
+        &rt,
+        alloc,
+        &[b"%AMA*1,1,9,0,0*%%A\nMA*1,1,1,0,0*%%ADD10A*%"],
+        0,
+        unit,
+    );
 }

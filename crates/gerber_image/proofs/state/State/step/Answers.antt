@@ -1,6 +1,6 @@
 use Rattle.gerber_image.specs.State.{held_of}
 use Rattle.gerber_words.specs.declared.commands.Command.TheVariants as commands
-use Rattle.gerber_image.proofs.ReadyLaws.{taken, operated, ready_format, ready_unit, ready_polarity, ready_mirror, ready_rotation, ready_mode, ready_multi_quadrant, ready_begin, ready_end, ready_select, ready_define, ready_open, ready_close}
+use Rattle.gerber_image.proofs.ReadyLaws.{taken, operated, ready_format, ready_unit, ready_polarity, ready_mirror, ready_rotation, ready_mode, ready_multi_quadrant, ready_begin, ready_end, ready_select, ready_define, ready_macro, ready_open, ready_close}
 use Rattle.gerber_image.proofs.state.State.step.Goals as goal
 
 pub returns-in-Format-clause-ready : goal.returns-in-Format-clause-ready
@@ -26,6 +26,9 @@ returns-in-Select-clause-ready c = taken (held_of c.args.self.now) (held_of c.se
 
 pub returns-in-Define-clause-ready : goal.returns-in-Define-clause-ready
 returns-in-Define-clause-ready c = taken (held_of c.args.self.now) (held_of c.define.new.self) (commands.Define c.in-Define.number c.in-Define.template) _ c.define.ensures (λ _. ready_define (held_of c.args.self.now) c.in-Define.number c.in-Define.template c.requires.ready)
+
+pub returns-in-DefineMacro-clause-ready : goal.returns-in-DefineMacro-clause-ready
+returns-in-DefineMacro-clause-ready c = taken (held_of c.args.self.now) (held_of c.define_macro.new.self) (commands.DefineMacro c.in-DefineMacro.name c.in-DefineMacro.body) _ c.define_macro.ensures (λ _. ready_macro (held_of c.args.self.now) c.in-DefineMacro.name c.in-DefineMacro.body c.requires.ready)
 
 pub returns-in-OpenRepeat-clause-ready : goal.returns-in-OpenRepeat-clause-ready
 returns-in-OpenRepeat-clause-ready c = taken (held_of c.args.self.now) (held_of c.open.new.self) (commands.OpenRepeat c.in-OpenRepeat.columns c.in-OpenRepeat.rows c.in-OpenRepeat.dx c.in-OpenRepeat.dy) _ c.open.ensures
