@@ -20,8 +20,9 @@ use Rattle.islands.proofs.Numbers.{number_inside, number_outside}
 use Rattle.cell_sets.proofs.Links.{IsFree, linked_sym, linked_trans, linked_self, linked_start}
 use Rattle.chain_walk.specs.Walk.{entry, IsWalk, IsShort, AreWalks}
 use Rattle.chain_walk.specs.Marks.{ChangesWorks, IsStartable, IsWalked}
+use Rattle.chain_walk.proofs.Entries.{each_push, steps_push}
 
-not_both : (a b : Cell) → IsBefore a b → IsBefore b a → ⊥
+pub not_both : (a b : Cell) → IsBefore a b → IsBefore b a → ⊥
 not_both a b (inl x) (inl y) = omega (arith, ints)
 not_both a b (inl x) (inr y) = omega (arith, ints, y.0)
 not_both a b (inr x) (inl y) = omega (arith, ints, x.0)
@@ -118,14 +119,6 @@ module _ (begin : Grid) where
     seam : get_or (walks ++ walk ∷ []) (length walks) [] ≡ walk
     seam = get_or-append_seam walks walk [] []
 
-    -- what holds of each walk before and of the new one holds of each
-    all_of : (P : List Cell → Type 0) → ((k : ℕ) → k < length walks → P (get_or walks k [])) → P walk → (k : ℕ) → k < length (walks ++ walk ∷ []) → P (get_or (walks ++ walk ∷ []) k [])
-    all_of P old new k l =
-        elim (cases_eq k (length walks)) as (λ _. P (get_or (walks ++ walk ∷ []) k [])) [
-          | inl z ↦ subst P (sym (ap (λ (i : ℕ). get_or (walks ++ walk ∷ []) i []) z ∙ seam)) new
-          | inr ne ↦ (let lt : k < length walks = omega (arith, ne, l, more) in subst P (sym (was k lt)) (old k lt))
-        ]
-
     next_chained : InFrame begin.frame s → place_of begin.frame s ≡ n → 0 < num works s → IsWalk taken walk → IsShort taken walk → entry walk 0 ≡ s → IsWalked taken begin.frame works works' s
         → IsChaining works' (walks ++ walk ∷ []) (n + 1)
     next_chained s_in at_n o w sh first v = record {
@@ -148,23 +141,14 @@ module _ (begin : Grid) where
         | inl y ↦ v.stays b (q.closed a b y j)
         | inr i ↦ v.component b (linked_trans (IsFree taken) s a b i j)
       ];
-      each = all_of (IsWalk taken) q.each w;
-      short = all_of (IsShort taken) q.short sh;
-      inside = all_of (λ x. InFrame begin.frame (entry x 0)) q.inside (subst (InFrame begin.frame) (sym first) s_in);
-      below = all_of (λ x. place_of begin.frame (entry x 0) < n + 1) (λ k l. (let b = q.below k l in omega (arith, b))) (let e : place_of begin.frame (entry walk 0) ≡ n = ap (place_of begin.frame) first ∙ at_n in omega (arith, e));
-      order = λ k l. elim (cases_eq (k + 1) (length walks)) as (λ _. IsBefore (start_of (walks ++ walk ∷ []) k) (start_of (walks ++ walk ∷ []) (k + 1))) [
-        | inl z ↦ (
-            let k_in : k < length walks = omega (arith, z) in
-            let less : place_of begin.frame (start_of walks k) < place_of begin.frame s = (let b = q.below k k_in in omega (arith, b, at_n)) in
-            subst (λ (x : List Cell). IsBefore (entry x 0) (start_of (walks ++ walk ∷ []) (k + 1))) (sym (was k k_in))
-            (subst (λ (x : Cell). IsBefore (start_of walks k) x) (sym (ap (λ (x : List Cell). entry x 0) (ap (λ (i : ℕ). get_or (walks ++ walk ∷ []) i []) z ∙ seam) ∙ first))
-            (before begin.frame (start_of walks k) s (q.inside k k_in) s_in less)))
-        | inr ne ↦ (
-            let next_in : k + 1 < length walks = omega (arith, ne, l, more) in
-            let k_in : k < length walks = omega (arith, next_in) in
-            subst (λ (x : List Cell). IsBefore (entry x 0) (start_of (walks ++ walk ∷ []) (k + 1))) (sym (was k k_in))
-            (subst (λ (x : List Cell). IsBefore (start_of walks k) (entry x 0)) (sym (was (k + 1) next_in)) (q.order k next_in)))
-      ];
+      each = each_push (IsWalk taken) [] walks walk q.each w;
+      short = each_push (IsShort taken) [] walks walk q.short sh;
+      inside = each_push (λ x. InFrame begin.frame (entry x 0)) [] walks walk q.inside (subst (InFrame begin.frame) (sym first) s_in);
+      below = each_push (λ x. place_of begin.frame (entry x 0) < n + 1) [] walks walk (λ k l. (let b = q.below k l in omega (arith, b))) (let e : place_of begin.frame (entry walk 0) ≡ n = ap (place_of begin.frame) first ∙ at_n in omega (arith, e));
+      order = steps_push (λ x y. IsBefore (entry x 0) (entry y 0)) [] walks walk q.order (λ k z. (
+          let k_in : k < length walks = omega (arith, z) in
+          let less : place_of begin.frame (start_of walks k) < place_of begin.frame s = (let b = q.below k k_in in omega (arith, b, at_n)) in
+          subst (IsBefore (start_of walks k)) (sym first) (before begin.frame (start_of walks k) s (q.inside k k_in) s_in less)));
     }
 
   not_chained : (works : List ℕ) (walks : List (List Cell)) (n : ℕ) (s : Cell) → IsChaining works walks n → InFrame begin.frame s → place_of begin.frame s ≡ n → num works s ≡ 0 → IsChaining works walks (n + 1)

@@ -1,13 +1,34 @@
 -- Lists of cells as functions of the index: what is among the first entries, and what stays true where they stay.
-use Rattle.std.proofs.Common.{◌≡◌, ◌≢◌, ℕ, ◌+◌, ◌<◌, ◌≤◌, Bool, true, List, [], ◌∷◌, ◌++◌, length, ◌⊎◌, inl, inr, sym, ap, subst, ◌∙◌, arith}
+use Rattle.std.proofs.Common.{◌≡◌, ◌≢◌, ℕ, ◌+◌, ◌<◌, ◌≤◌, Bool, true, List, [], ◌∷◌, ◌++◌, length, get_or, ◌⊎◌, inl, inr, sym, ap, subst, ◌∙◌, arith}
 use Rattle.std.specs.List.{Contains}
 use Rattle.std.proofs.lemmas.List.{length_push, get_or_default}
+use Rattle.std.proofs.lemmas.List.Elements.{All-push, All-from_get_or}
 use Rattle.std.proofs.Math.ListN.{get_or-append}
 use Rattle.std.proofs.Math.Seq.{get_or-append_seam}
 use Rattle.std.proofs.lemmas.Bool.{cases_eq}
 use Rattle.board_base.specs.declared.places.Cell.{Cell}
 use Rattle.islands.specs.Ways.{neighbour_of}
 use Rattle.chain_walk.specs.Walk.{origin, entry, IsAmong, GoesOn, GoesBack}
+
+-- what holds of each entry and of a new one holds of each
+pub each_push : {X : Type 0} (P : X → Type 0) (d : X) (xs : List X) (x : X) → ((k : ℕ) → k < length xs → P (get_or xs k d)) → P x → (k : ℕ) → k < length (xs ++ x ∷ []) → P (get_or (xs ++ x ∷ []) k d)
+each_push P d xs x old new k l = All-push P xs x (All-from_get_or P xs d old) new k d l
+
+-- what holds of each two successive entries, and of the last and a new one, holds of each two
+pub steps_push : {X : Type 0} (R : X → X → Type 0) (d : X) (xs : List X) (x : X) → ((k : ℕ) → k + 1 < length xs → R (get_or xs k d) (get_or xs (k + 1) d))
+    → ((k : ℕ) → k + 1 ≡ length xs → R (get_or xs k d) x) → (k : ℕ) → k + 1 < length (xs ++ x ∷ []) → R (get_or (xs ++ x ∷ []) k d) (get_or (xs ++ x ∷ []) (k + 1) d)
+steps_push R d xs x old new k l =
+    let n : length (xs ++ x ∷ []) ≡ length xs + 1 = length_push xs x in
+    let k_in : k < length xs = omega (arith, l, n) in
+    let here : get_or xs k d ≡ get_or (xs ++ x ∷ []) k d = sym (get_or-append xs (x ∷ []) d k k_in) in
+    elim (cases_eq (k + 1) (length xs)) as (λ _. R (get_or (xs ++ x ∷ []) k d) (get_or (xs ++ x ∷ []) (k + 1) d)) [
+      | inl z ↦
+          subst (λ y. R y (get_or (xs ++ x ∷ []) (k + 1) d)) here
+          (subst (R (get_or xs k d)) (sym (ap (λ (i : ℕ). get_or (xs ++ x ∷ []) i d) z ∙ get_or-append_seam xs x [] d)) (new k z))
+      | inr ne ↦ (
+          let next_in : k + 1 < length xs = omega (arith, ne, l, n) in
+          subst (λ y. R y (get_or (xs ++ x ∷ []) (k + 1) d)) here (subst (R (get_or xs k d)) (sym (get_or-append xs (x ∷ []) d (k + 1) next_in)) (old k next_in)))
+    ]
 
 -- b was first entered from a
 pub record IsChild (W : ℕ → Cell) (n : ℕ) (a b : Cell) : Type 0 where

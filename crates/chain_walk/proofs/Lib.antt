@@ -7,3 +7,6 @@ pub mod CornerLaws
 pub mod Traces
 pub mod CornerRuns
 pub mod CornerTurns
+pub mod RowRunLaws
+pub mod RowSteps
+pub mod OneRuns
