@@ -1,9 +1,9 @@
 -- A file has one drill list.
-use Rattle.std.proofs.Common.{◌≡◌, refl, ℕ, zero, suc, ℤ, List, [], ◌∷◌, map, length, ◌⊎◌, ◌↔◌, inl, inr, sym, ap, subst, ◌∙◌, arith}
+use Rattle.std.proofs.Common.{◌≡◌, refl, ℤ, List, [], ◌∷◌, map, ◌↔◌, inl, inr, sym, ap, subst, ◌∙◌}
 use Rattle.std.specs.List.{All, AllByRecursion}
 use Rattle.std.specs.List.Sorted.{IsStrictlySortedBy}
 use Rattle.std.specs.declared.cmp.Ordering.{Ordering}
-use Rattle.std.specs.declared.cmp.Ordering.TheVariants.{Less, Equal, Greater}
+use Rattle.std.specs.declared.cmp.Ordering.TheVariants.{Less, Greater}
 use Rattle.std.specs.Ordering.{int_cmp, ordering_reverse}
 use Rattle.std.specs.Cmp.{IsTotalOrder}
 use Rattle.std.proofs.lemmas.Cmp.{int_cmp_total, then_total}
@@ -14,7 +14,7 @@ use Rattle.path_order.specs.Tours.{IsImproved}
 use Rattle.path_order.proofs.Unique.{one_tour}
 use Rattle.drill_plan.specs.Sets.{Has, IsAscending}
 use Rattle.drill_plan.specs.Entries.{by_rows, by_columns, by_ends, tools_of, places_of, slots_of}
-use Rattle.drill_plan.specs.Plan.{IsTour, IsToolPlan, IsDrillPlan}
+use Rattle.drill_plan.specs.Plan.{IsTour, IsToolPlan}
 use Rattle.drill_plan.specs.Laws.{OnePlan}
 use Rattle.drill_plan.specs.declared.plans.ToolPlan.{ToolPlan}
 use Rattle.drill_plan.proofs.SetLaws.{all_head, all_tail}
@@ -23,13 +23,13 @@ use Rattle.drill_plan.proofs.SetLaws.{all_head, all_tail}
 total_by : {X K : Type 0} (f : X → K) {cmp : K → K → Ordering} → IsTotalOrder cmp → IsTotalOrder (λ (a b : X). cmp (f a) (f b))
 total_by f o = record { antisymm = λ x y. o.antisymm (f x) (f y); trans = λ x y z. o.trans (f x) (f y) (f z); congr = λ x y z. o.congr (f x) (f y) (f z) }
 
-rows_total : IsTotalOrder by_rows
+pub rows_total : IsTotalOrder by_rows
 rows_total = then_total (total_by (λ (p : Point). p.y) int_cmp_total) (total_by (λ (p : Point). p.x) int_cmp_total)
 
-columns_total : IsTotalOrder by_columns
+pub columns_total : IsTotalOrder by_columns
 columns_total = then_total (total_by (λ (p : Point). p.x) int_cmp_total) (total_by (λ (p : Point). p.y) int_cmp_total)
 
-ends_total : IsTotalOrder by_ends
+pub ends_total : IsTotalOrder by_ends
 ends_total = then_total (total_by (λ (e : Point × Point). e.0) columns_total) (total_by (λ (e : Point × Point). e.1) columns_total)
 
 module _ {X : Type 0} (cmp : X → X → Ordering) (total : IsTotalOrder cmp) where

@@ -1,7 +1,7 @@
 -- Sets, and the lists that were added to them.
 use Rattle.std.proofs.Common.{◌≡◌, refl, ℕ, zero, suc, Bool, true, false, pos, length-append, ◌+◌, ◌≤◌, ◌⊎◌, ◌↔◌, inl, inr, Result, Ok, Err, IfOk, OnOk, List, [], ◌∷◌, ◌++◌, map, take, get_or, ◌<◌, length, arith, ap, sym, ◌∙◌, subst, ℤ}
 use Rattle.std.specs.Prelude.{◌&&◌, if◌then◌else◌}
-use Rattle.std.specs.List.{All, flat_map, range_with_len, AllByRecursion}
+use Rattle.std.specs.List.{All, flat_map, AllByRecursion}
 use Rattle.std.specs.List.Sorted.{IsStrictlySortedBy}
 use Rattle.std.specs.declared.cmp.Ordering.{Ordering}
 use Rattle.std.specs.declared.cmp.Ordering.TheVariants.{Less, Equal, Greater}
@@ -15,10 +15,9 @@ use Rattle.std.proofs.lemmas.List.{append-nil, map-append, length-map}
 use Rattle.board_base.specs.Places.{IsPlace}
 use Rattle.excellon.specs.Fits.{IsHole, IsSlot, IsDrilled}
 use Rattle.excellon.specs.declared.file.DrillFile.{DrillFile}
-use Rattle.path_order.specs.Orders.{ArePlaces, IsOrder}
+use Rattle.path_order.specs.Orders.{ArePlaces}
 use Rattle.drill_plan.specs.declared.plans.ToolPlan.{ToolPlan}
 use Rattle.std.proofs.lemmas.List.Elements.{All-append}
-use Rattle.std.proofs.lemmas.List.Sorted.{All-permutation}
 use Rattle.drill_plan.specs.Tools.{tool_of}
 use Rattle.drill_plan.specs.Sets.{Has, IsAscending}
 use Rattle.drill_plan.specs.Entries.{by_rows, by_ends, is_hole, hole_place, slot_place, places_of}
@@ -130,7 +129,7 @@ set_has cmp exact xs x = (λ has. all_inserted cmp exact [] xs x (inr has), λ h
 
 -- Lists of other things.
 
-has_map : {X K : Type 0} (g : X → K) (xs : List X) (x : X) → Has xs x → Has (map g xs) (g x)
+pub has_map : {X K : Type 0} (g : X → K) (xs : List X) (x : X) → Has xs x → Has (map g xs) (g x)
 has_map g (y ∷ ys) x (inl same) = inl (ap g same)
 has_map g (y ∷ ys) x (inr has) = inr (has_map g ys x has)
 has_map g [] x none = absurd none
@@ -164,10 +163,10 @@ rising_map cmp by back e (k ∷ ks) r = (all_map (λ y. cmp k y ≡ Less) (λ y.
 
 -- Exact orders.
 
-int_same : (a b : ℤ) → int_cmp a b ≡ Equal → a ≡ b
+pub int_same : (a b : ℤ) → int_cmp a b ≡ Equal → a ≡ b
 int_same a b e = grind (arith, ints, e)
 
-then_equal : (o p : Ordering) → ordering_then o p ≡ Equal → (o ≡ Equal) × (p ≡ Equal)
+pub then_equal : (o p : Ordering) → ordering_then o p ≡ Equal → (o ≡ Equal) × (p ≡ Equal)
 then_equal Less p e = absurd cc
 then_equal Equal p e = (refl, e)
 then_equal Greater p e = absurd cc
@@ -229,7 +228,7 @@ all_of_has P [] has k d h = absurd (omega (arith, h))
 all_of_has P (x ∷ xs) has zero d h = has x (inl refl)
 all_of_has P (x ∷ xs) has (suc k) d h = all_of_has P xs (λ y in_rest. has y (inr in_rest)) k d (omega (arith, h))
 
-has_either : {X : Type 0} (xs ys : List X) (x : X) → Has (xs ++ ys) x → Has xs x ⊎ Has ys x
+pub has_either : {X : Type 0} (xs ys : List X) (x : X) → Has (xs ++ ys) x → Has xs x ⊎ Has ys x
 has_either [] ys x h = inr h
 has_either (y ∷ xs) ys x (inl same) = inl (inl same)
 has_either (y ∷ xs) ys x (inr h) = later (has_either xs ys x h)
@@ -238,7 +237,7 @@ has_either (y ∷ xs) ys x (inr h) = later (has_either xs ys x h)
     later (inl a) = inl (inr a)
     later (inr b) = inr b
 
-by_either : {A B C : Type 0} → (A → C) → (B → C) → A ⊎ B → C
+pub by_either : {A B C : Type 0} → (A → C) → (B → C) → A ⊎ B → C
 by_either f g (inl a) = f a
 by_either f g (inr b) = g b
 

@@ -1,5 +1,5 @@
 -- What the tool for a diameter is.
-use Rattle.std.proofs.Common.{◌≡◌, refl, ℕ, ℤ, ◌-ℤ◌, ◌≤◌, ◌≤ℤ◌, Bool, true, false, cond, List, [], ◌∷◌, fold, ◌⊎◌, inl, inr, sym, subst, ◌∙◌, arith}
+use Rattle.std.proofs.Common.{◌≡◌, refl, ℕ, ℤ, ◌-ℤ◌, ◌≤◌, Bool, true, false, cond, List, [], ◌∷◌, fold, ◌⊎◌, inl, inr, sym, subst, ◌∙◌, arith}
 use Rattle.std.specs.Prelude.{unsigned_abs, int_le, nat_lt}
 use Rattle.std.proofs.lemmas.Int.{ints}
 use Rattle.std.proofs.lemmas.Bool.{ltb-true, cases_lt, lt-ltb, false≢true}
@@ -72,3 +72,24 @@ module _ (own : ℤ) where
 pub tool_law : ToolLaw
 tool_law [] own = record { given = inl (refl, refl); nearest = λ other none. absurd none }
 tool_law (first ∷ others) own = let all = nearest_of own first others in record { given = inr all.among; nearest = all.nearest }
+
+-- ---- one tool for each diameter
+
+near_both : (own a b : ℤ) → IsNearer own a b → IsNearer own b a → a ≡ b
+near_both own a b (inl h) (inl k) = absurd (omega (arith, h, k))
+near_both own a b (inl h) (inr k) = absurd (omega (arith, h, k.0))
+near_both own a b (inr h) (inl k) = absurd (omega (arith, h.0, k))
+near_both own a b (inr h) (inr k) = omega (arith, ints, h.1, k.1)
+
+one_tool : (available : List ℤ) (own a b : ℤ) → IsToolFor available own a → IsToolFor available own b → a ≡ b
+one_tool available own a b s t = by_given s.given t.given
+  where
+    by_given : ((available ≡ []) × (a ≡ own)) ⊎ Has available a → ((available ≡ []) × (b ≡ own)) ⊎ Has available b → a ≡ b
+    by_given (inl h) (inl k) = h.1 ∙ sym k.1
+    by_given (inl h) (inr k) = absurd (subst (λ l. Has l b) h.0 k)
+    by_given (inr h) (inl k) = absurd (subst (λ l. Has l a) k.0 h)
+    by_given (inr h) (inr k) = near_both own a b (s.nearest b k) (t.nearest a h)
+
+-- what is the tool for a diameter is the one that is found
+pub tool_is : (available : List ℤ) (own tool : ℤ) → IsToolFor available own tool → tool_of available own ≡ tool
+tool_is available own tool t = one_tool available own (tool_of available own) tool (tool_law available own) t

@@ -6,7 +6,7 @@ ghost use Rattle.path_order.specs.Orders.{point_at, IsOrder};
 ghost use Rattle.excellon.specs.Fits.{IsDrilled};
 ghost use Rattle.drill_plan.specs.Sets.{IsAscending};
 ghost use Rattle.drill_plan.specs.Entries.{tools_of, places_of};
-ghost use Rattle.drill_plan.specs.Laws.{OnePlan};
+ghost use Rattle.drill_plan.specs.Limits.{counts_of, IsWithinLimits};
 ghost use Rattle.drill_plan.specs.Plan.{IsTour, IsToolPlan, IsDrillPlan};
 
 use crate::entries::{places, slots, tools};
@@ -101,7 +101,28 @@ pub fn plan(alloc: Global, file: &DrillFile, available: &Vec<i64>) -> Result<Dri
     Ok(plan)
 }
 
-/// A file has one drill list.
-pub fn one_plan_law()
-    ensures { OnePlan }
-{}
+/// How many tools, holes and slots a drill list has.
+#[derive(Clone, Copy, Debug, PartialEq, Eq)]
+pub struct DrillCounts {
+    pub tools: u64,
+    pub holes: u64,
+    pub slots: u64,
+}
+
+/// How many tools, holes and slots a drill list has.
+pub fn counts(plan: &DrillPlan) -> DrillCounts
+    requires { IsWithinLimits plan.now }
+    ensures { result ≡ counts_of plan.now }
+{
+    let mut holes = 0;
+    let mut slots = 0;
+    'tools: for tool in plan.inner() {
+        holes += tool.holes.len() as u64;
+        slots += tool.slots.len() as u64;
+    }
+    DrillCounts {
+        tools: plan.len() as u64,
+        holes,
+        slots,
+    }
+}
