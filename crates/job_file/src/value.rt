@@ -302,7 +302,7 @@ fn asks_more(value: &Value) -> bool
 fn is_ahead(key: u8, value: &Value) -> bool
     ensures { result ≡ is_ahead_in key value.now }
 {
-    let is_new = key == 3 || key == 4 || key == 31 || key == 32 || key == 33;
+    let is_new = key == 4 || key == 31 || key == 32 || key == 33;
     is_new && asks_more(value)
 }
 

@@ -54,7 +54,7 @@ fn lines_are_refused_at_their_places(rt: HostRuntime) {
         ),
         ("# board\nmetric=true\n", (JobKind::Missing, 0, 0)),
         ("front=a\n\nx\n", (JobKind::BadValue, 0, 3)),
-        ("front=a\ndrill=b\n", (JobKind::NotBuiltYet, 3, 2)),
+        ("front=a\noutline=b\n", (JobKind::NotBuiltYet, 4, 2)),
         ("outline=b\r\n", (JobKind::NotBuiltYet, 4, 1)),
     ] {
         assert_eq!(rt;
