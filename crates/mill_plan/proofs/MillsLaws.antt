@@ -1,36 +1,40 @@
 -- What a traced program does to the copper.
-use Rattle.std.proofs.Common.{◌≡◌, ◌↔◌, ℕ, ◌<◌, ◌≤◌, ℤ, pos, negsuc, neg_ℤ, ◌+ℤ◌, ◌-ℤ◌, ◌*ℤ◌, ◌≤ℤ◌, ◌<ℤ◌, true, inl, List, [], ◌∷◌, map, unsigned_abs, refl, sym, ap, subst, ◌∙◌, arith}
+use Rattle.std.proofs.Common.{◌≡◌, ℕ, ℤ, pos, negsuc, neg_ℤ, ◌+ℤ◌, ◌-ℤ◌, ◌*ℤ◌, ◌≤ℤ◌, ◌<ℤ◌, true, inl, List, [], ◌∷◌, map, unsigned_abs, refl, sym, ap, subst, ◌∙◌, arith}
 use Rattle.std.specs.List.{Contains}
 use Rattle.std.specs.Int.{int_div_euclid}
 use Rattle.std.proofs.lemmas.List.Elements.{All-contains}
 use Rattle.std.proofs.lemmas.Int.{by_lt_z}
 use borrow.Author.Differences.{ints}
 use Rattle.number_laws.proofs.Ring.{Ex, var, num, add, sub, mul, ring}
-use Rattle.number_laws.proofs.Order.{square_nonneg, mul_pos, mul_le_left, cancel}
+use Rattle.number_laws.proofs.Order.{square_nonneg, mul_pos, mul_le_left}
 use Rattle.number_laws.proofs.Quotients.{rounded_low, rounded_high}
 use Rattle.board_base.specs.declared.places.Point.{Point}
 use Rattle.board_base.specs.declared.places.Cell.{Cell}
 use Rattle.board_base.specs.declared.places.Move.{Move}
 use Rattle.board_base.specs.Lattice.{IsPitch, IsHalfDiagonal, half_of, middle, centre_of, cell_of, dist2, half_diagonal_of}
 use Rattle.board_base.specs.Near.{near_of}
-use Rattle.cell_sets.specs.Contour.{IsContour, guard_of, reach_of}
+use Rattle.cell_sets.specs.Contour.{IsAllowed, guard_of, reach_of}
+use Rattle.cell_sets.specs.Passes.{guard_at}
+use Rattle.cell_sets.proofs.Guards.{visited_allowed}
+use Rattle.mill_plan.proofs.GuardLaws.{reach_nonneg}
+use Rattle.mill_plan.proofs.JobLaws.{IsMilling}
 use Rattle.plane_geom.specs.NearStep.{length2}
 use Rattle.plane_geom.proofs.NearLaws.{near_step}
 use Rattle.cell_sets.specs.Reached.{IsReachedFrom, in_unit, ScaledSweep}
 use Rattle.shape_parts.specs.declared.shape.Painted.{Painted}
 use Rattle.shape_parts.specs.Cover.{is_dark, CoverLaw}
-use Rattle.chain_walk.specs.Corners.{corners_of}
+use Rattle.copper_cover.specs.Kept.{keeps}
 use Rattle.chain_walk.specs.Walk.{IsConnected}
-use Rattle.chain_walk.specs.Runs.{IsUnit, stepped, IsRun, IsOnRun, AreSuccessive, CornerLaw}
+use Rattle.chain_walk.specs.Runs.{IsUnit, stepped, IsOnRun, CornerLaw}
 use Rattle.rs274_sim.specs.Cutter.{nanometre, scaled, under, width_of, IsLow, IsDeep, Sweeps}
 use Rattle.rs274_sim.specs.Runs.{RunsTo}
 use Rattle.mill_program.specs.Conditions.{IsProgram, IsRunnable}
 use Rattle.mill_program.specs.Lines.{lines_of}
 use Rattle.mill_program.specs.Moves.{moves_of, unnumbered}
 use Rattle.mill_program.specs.RunLaw.{RunLaw}
-use Rattle.mill_plan.specs.declared.job.Job.{Job}
-use Rattle.mill_plan.specs.Job.{IsJob, radius_of, bite_of, guard, keeps}
-use Rattle.mill_plan.specs.Frame.{sweep_of}
+use Rattle.job_file.specs.declared.job.Job.{Job}
+use Rattle.mill_plan.specs.declared.cutting.Cutting.{Cutting}
+use Rattle.mill_plan.specs.Cutting.{IsCutting, bite_of, guard, kept_by, sweep_of, side_cutting, IsVisited}
 use Rattle.mill_plan.specs.Mills.{Mills}
 use Rattle.mill_plan.specs.Cuts.{corner_of, run_along, program_along, AreTraces}
 use Rattle.plane_geom.proofs.Points.{near_point, point_near}
@@ -109,7 +113,7 @@ near_visited job walks move q r diagonal low o swept =
     widths r h = ring (r ∷ h ∷ []) (add (mul (mul (num (pos 2)) (var 0)) (num nanometre)) (mul (num (pos 2)) (mul (var 1) (num nanometre)))) (mul (mul (num (pos 2)) (add (var 0) (var 1))) (num nanometre)) refl
 
 -- a low move of the run goes over cells of a walk
-low_over : (job : Job) (walks : List (List Cell)) (moves : List Move) (move : Move) → IsJob job → CornerLaw → ((w : List Cell) → Contains walks w → IsConnected w) → map unnumbered moves ≡ moves_of (program_along job walks)
+low_over : (job : Job) (walks : List (List Cell)) (moves : List Move) (move : Move) → IsMilling job → CornerLaw → ((w : List Cell) → Contains walks w → IsConnected w) → map unnumbered moves ≡ moves_of (program_along job walks)
     → Contains moves move → IsLow (job.zsafe *ℤ nanometre) move → IsOverRun job walks move
 low_over job walks moves move ok law connected e there low =
     let o = All-contains (IsGuarded job walks) (moves_of (program_along job walks)) (unnumbered move) (moves_guarded job walks ok law connected)
@@ -148,23 +152,34 @@ apart p h b g a q pitch diagonal some guard far near =
     ends : (l m s t u v : ℤ) → l ≡ m → s ≡ pos 4 *ℤ t → u ≡ v → (pos 4 *ℤ l) ≤ℤ s → u ≤ℤ m → t <ℤ v → ⊥
     ends l m s t u v e f g a b c = omega (arith, ints)
 
--- no dark point is within the bite and half a diagonal of a contour's centre
-dark_apart : (job : Job) (painted : List Painted) (c : Cell) (q : Point) → IsJob job → IsHalfDiagonal job.pitch (half_diagonal_of job.pitch) → CoverLaw
-    → IsContour (keeps job painted) (guard job) c → is_dark q painted ≡ true → near_of q (centre_of job.pitch c) (centre_of job.pitch c) (pos 2 *ℤ (bite_of job +ℤ half_diagonal_of job.pitch)) ≡ true → ⊥
-unfolding keeps guard guard_of reach_of bite_of
-dark_apart job painted c q ok diagonal law contour dark near =
-    apart job.pitch (half_diagonal_of job.pitch) (bite_of job) (guard job) c q ok.pitch diagonal (some (radius_of job) job.tolerance ok.less_tolerance) refl
-    (contour.0 (cell_of job.pitch q) (law job.pitch (half_diagonal_of job.pitch) painted q ok.pitch diagonal dark)) near
-  where
-    some : (r t : ℤ) → t <ℤ r → pos 0 ≤ℤ (r -ℤ t)
-    some r t h = omega (arith, ints)
-
-bite_low : (job : Job) → IsJob job → pos 0 ≤ℤ bite_of job
+pub bite_low : (k : Cutting) → IsCutting k → pos 0 ≤ℤ bite_of k
 unfolding bite_of
-bite_low job ok = by (radius_of job) job.tolerance ok.less_tolerance
+bite_low k ok = by k.radius k.tolerance ok.less_tolerance
   where
     by : (r t : ℤ) → t <ℤ r → pos 0 ≤ℤ (r -ℤ t)
     by r t h = omega (arith, ints)
+
+-- a visited cell is allowed
+pub visited_in : (k : Cutting) (painted : List Painted) (c : Cell) → IsCutting k → IsVisited k painted c → IsAllowed (kept_by k painted) (guard k 0) c
+unfolding guard
+visited_in k painted c ok v = visited_allowed k.pitch (reach_of k.radius k.tolerance (half_diagonal_of k.pitch)) k.step k.last v.0 (kept_by k painted) (some k.pitch ok.wide) (reach_nonneg k ok) ok.some_step c v.2
+  where
+    some : (p : ℤ) → pos 2000 ≤ℤ p → pos 0 <ℤ p
+    some p h = omega (arith, ints)
+
+first_guard : (k : Cutting) → guard k 0 ≡ int_div_euclid ((bite_of k +ℤ pos 2 *ℤ half_diagonal_of k.pitch) *ℤ (bite_of k +ℤ pos 2 *ℤ half_diagonal_of k.pitch)) (k.pitch *ℤ k.pitch)
+unfolding guard guard_at guard_of reach_of bite_of
+first_guard k =
+    let r : ℤ = (k.radius -ℤ k.tolerance) +ℤ pos 2 *ℤ half_diagonal_of k.pitch in
+    ap (λ x. int_div_euclid (x *ℤ x) (k.pitch *ℤ k.pitch)) (ring (r ∷ k.step ∷ []) (add (var 0) (mul (num (pos 0)) (var 1))) (var 0) refl)
+
+-- no dark point is within the bite and half a diagonal of an allowed centre
+pub dark_apart : (k : Cutting) (painted : List Painted) (c : Cell) (q : Point) → IsCutting k → IsHalfDiagonal k.pitch (half_diagonal_of k.pitch) → CoverLaw
+    → IsAllowed (kept_by k painted) (guard k 0) c → is_dark q painted ≡ true → near_of q (centre_of k.pitch c) (centre_of k.pitch c) (pos 2 *ℤ (bite_of k +ℤ half_diagonal_of k.pitch)) ≡ true → ⊥
+unfolding keeps
+dark_apart k painted c q ok diagonal law allowed dark near =
+    apart k.pitch (half_diagonal_of k.pitch) (bite_of k) (guard k 0) c q ok.pitch diagonal (bite_low k ok) (first_guard k)
+    (allowed (cell_of k.pitch q) (law k.pitch (half_diagonal_of k.pitch) painted q ok.pitch diagonal dark)) near
 
 -- ---- cells whose centres are within half a diagonal
 
@@ -263,17 +278,17 @@ deep_on_run job walks w x y c o =
     (subst (λ (b : Point). near_of (on_lattice a (p *ℤ nanometre) k.east k.north (pos o.at)) (under (deep_step job (run_along job walks) walks x y).from) b (pos 0) ≡ true) (sym (at_corner job y ∙ end))
     (subst (λ (b : Point). near_of (on_lattice a (p *ℤ nanometre) k.east k.north (pos o.at)) b (on_lattice a (p *ℤ nanometre) k.east k.north (pos k.count)) (pos 0) ≡ true) (sym (at_corner job x)) on))
 
--- a step at the depth over a cell of the contour
+-- a step at the depth over a visited cell
 record IsStepOver (job : Job) (walks : List (List Cell)) (moves : List Move) (c : Cell) : Type 0 where
   move : Move
   there : Contains moves move
   deep : IsDeep (job.zwork *ℤ nanometre) move
   passes : Sweeps move (centre_of job.pitch c) (pos 0)
 
-step_over : (job : Job) (painted : List Painted) (walks : List (List Cell)) (moves : List Move) (c : Cell) → CornerLaw → AreTraces job painted walks → map unnumbered moves ≡ moves_of (program_along job walks)
-    → IsContour (keeps job painted) (guard job) c → IsStepOver job walks moves c
-step_over job painted walks moves c law traces e contour =
-    let t = traces.all c contour in
+step_over : (job : Job) (painted : List Painted) (walks : List (List Cell)) (moves : List Move) (c : Cell) → CornerLaw → AreTraces (side_cutting job) painted walks → map unnumbered moves ≡ moves_of (program_along job walks)
+    → IsVisited (side_cutting job) painted c → IsStepOver job walks moves c
+step_over job painted walks moves c law traces e visited =
+    let t = traces.all c visited in
     let w : List Cell = t.0 in
     let o = (law w (traces.connected w t.1.0)).1 c t.1.1 in
     let step : Move = deep_step job (run_along job walks) walks o.0 o.1 in
@@ -295,13 +310,13 @@ passed_reaches p v move q r low reached passes =
     widths : (r : ℤ) → pos 0 +ℤ pos 2 *ℤ (r *ℤ nanometre) ≡ (pos 2 *ℤ r) *ℤ nanometre
     widths r = ring (r ∷ []) (add (num (pos 0)) (mul (num (pos 2)) (mul (var 0) (num nanometre)))) (mul (mul (num (pos 2)) (var 0)) (num nanometre)) refl
 
--- the sweep of the job isn't past the radius less half a diagonal
-sweep_low : (job : Job) → IsJob job → (pos (sweep_of job) *ℤ (job.pitch *ℤ job.pitch)) ≤ℤ ((radius_of job -ℤ half_diagonal_of job.pitch) *ℤ (radius_of job -ℤ half_diagonal_of job.pitch))
+-- the sweep of a cutting isn't past the radius less half a diagonal
+sweep_low : (k : Cutting) → IsCutting k → (pos (sweep_of k) *ℤ (k.pitch *ℤ k.pitch)) ≤ℤ ((k.radius -ℤ half_diagonal_of k.pitch) *ℤ (k.radius -ℤ half_diagonal_of k.pitch))
 unfolding sweep_of
-sweep_low job ok =
-    let x : ℤ = radius_of job -ℤ half_diagonal_of job.pitch in
-    let d : ℤ = job.pitch *ℤ job.pitch in
-    let wide : pos 0 <ℤ d = mul_pos job.pitch job.pitch (some job.pitch ok.wide) (some job.pitch ok.wide) in
+sweep_low k ok =
+    let x : ℤ = k.radius -ℤ half_diagonal_of k.pitch in
+    let d : ℤ = k.pitch *ℤ k.pitch in
+    let wide : pos 0 <ℤ d = mul_pos k.pitch k.pitch (some k.pitch ok.wide) (some k.pitch ok.wide) in
     let quotient : ℤ = int_div_euclid (x *ℤ x) d in
     let low : (d *ℤ quotient) ≤ℤ (x *ℤ x) = rounded_low (x *ℤ x) d quotient wide refl in
     let high : (x *ℤ x) <ℤ (d *ℤ quotient +ℤ d) = rounded_high (x *ℤ x) d quotient wide refl in
@@ -335,14 +350,15 @@ under_safe work safe z h k l = omega (arith, ints)
 radius_low : (h r : ℤ) → pos 0 <ℤ h → h <ℤ r → pos 0 ≤ℤ r
 radius_low h r a b = omega (arith, ints)
 
--- the run of a traced program doesn't bite, passes the contour's centres and no others, and sweeps what these sweep
-pub mills : (job : Job) (painted : List Painted) (walks : List (List Cell)) (moves : List Move) → IsJob job → IsHalfDiagonal job.pitch (half_diagonal_of job.pitch) → CoverLaw → ScaledSweep → CornerLaw
-    → AreTraces job painted walks → map unnumbered moves ≡ moves_of (program_along job walks) → Mills job painted moves
+-- the run of a traced program doesn't bite, passes the visited centres and no others, and sweeps what these sweep
+pub mills : (job : Job) (painted : List Painted) (walks : List (List Cell)) (moves : List Move) → IsMilling job → IsHalfDiagonal job.pitch (half_diagonal_of job.pitch) → CoverLaw → ScaledSweep → CornerLaw
+    → AreTraces (side_cutting job) painted walks → map unnumbered moves ≡ moves_of (program_along job walks) → Mills job painted moves
+unfolding side_cutting
 mills job painted walks moves ok diagonal cover sweep law traces e = record {
   no_bite = λ q dark move there low swept. (
       let o = low_over job walks moves move ok law traces.connected e there low in
-      let v = near_visited job walks move q (bite_of job) diagonal (bite_low job ok) o swept in
-      dark_apart job painted v.cell q ok diagonal cover (traces.each v.walk v.cell v.there v.inside) dark v.near);
+      let v = near_visited job walks move q (bite_of (side_cutting job)) diagonal (bite_low (side_cutting job) ok.cutting) o swept in
+      dark_apart (side_cutting job) painted v.cell q ok.cutting diagonal cover (visited_in (side_cutting job) painted v.cell ok.cutting (traces.each v.walk v.cell v.there v.inside)) dark v.near);
   visited = λ c. (
     (λ passed.
         let move : Move = passed.0 in
@@ -350,19 +366,19 @@ mills job painted walks moves ok diagonal cover sweep law traces e = record {
         let o = low_over job walks moves move ok law traces.connected e passed.1 low in
         let v = near_visited job walks move (centre_of job.pitch c) (pos 0) diagonal (at_depth (pos 0)) o passed.3 in
         let same : c ≡ v.cell = same_cell_by_half job.pitch (half_diagonal_of job.pitch) c v.cell ok.pitch diagonal v.near in
-        subst (λ (d : Cell). IsContour (keeps job painted) (guard job) d) (sym same) (traces.each v.walk v.cell v.there v.inside)),
-    (λ contour. let s = step_over job painted walks moves c law traces e contour in (s.move, s.there, s.deep, s.passes)),
+        subst (λ (d : Cell). IsVisited (side_cutting job) painted d) (sym same) (traces.each v.walk v.cell v.there v.inside)),
+    (λ visited. let s = step_over job painted walks moves c law traces e visited in (s.move, s.there, s.deep, s.passes)),
   );
   swept = λ c reached q inside. (
       let v : Cell = reached.from in
       let s = step_over job painted walks moves v law traces e reached.member in
-      let near = sweep nanometre job.pitch (half_diagonal_of job.pitch) (radius_of job) (sweep_of job) ok.pitch diagonal ok.fine (sweep_low job ok) v c reached.within q inside in
-      (s.move, s.there, s.deep, passed_reaches job.pitch v s.move q (radius_of job) (radius_low (half_diagonal_of job.pitch) (radius_of job) diagonal.positive ok.fine) near s.passes));
+      let near = sweep nanometre job.pitch (half_diagonal_of job.pitch) (side_cutting job).radius (sweep_of (side_cutting job)) ok.pitch diagonal ok.cutting.fine (sweep_low (side_cutting job) ok.cutting) v c reached.within q inside in
+      (s.move, s.there, s.deep, passed_reaches job.pitch v s.move q (side_cutting job).radius (radius_low (half_diagonal_of job.pitch) (side_cutting job).radius diagonal.positive ok.cutting.fine) near s.passes));
 }
 
 -- the run of its lines
-pub runs : (job : Job) (painted : List Painted) (walks : List (List Cell)) → IsJob job → IsHalfDiagonal job.pitch (half_diagonal_of job.pitch) → CoverLaw → ScaledSweep → CornerLaw → RunLaw
-    → IsProgram (program_along job walks) → IsRunnable (program_along job walks) → AreTraces job painted walks → RunsTo (lines_of (program_along job walks)) (Mills job painted)
+pub runs : (job : Job) (painted : List Painted) (walks : List (List Cell)) → IsMilling job → IsHalfDiagonal job.pitch (half_diagonal_of job.pitch) → CoverLaw → ScaledSweep → CornerLaw → RunLaw
+    → IsProgram (program_along job walks) → IsRunnable (program_along job walks) → AreTraces (side_cutting job) painted walks → RunsTo (lines_of (program_along job walks)) (Mills job painted)
 unfolding RunsTo
 runs job painted walks ok diagonal cover sweep law run valid runnable traces answers =
     let found = run answers (program_along job walks) valid runnable in
