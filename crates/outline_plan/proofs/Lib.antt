@@ -1,0 +1,13 @@
+pub mod JobLaws
+pub mod LevelLaws
+pub mod StepLaws
+pub mod UnitLaws
+pub mod ClearLaws
+pub mod OverLaws
+pub mod CutLaws
+pub mod WalkLaws
+pub mod OutlineLaws
+pub mod RefusalLaws
+pub mod BoxLaws
+pub mod BoardLaws
+pub mod AnswerLaws
