@@ -1,0 +1,3 @@
+pub mod TellLaws
+pub mod RunLaws
+pub mod AloneLaws

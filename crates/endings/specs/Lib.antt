@@ -1,0 +1,11 @@
+pub mod Limits
+pub mod Numbers
+pub mod Lines
+pub mod Reads
+pub mod Steps
+pub mod Answers
+pub mod Outputs
+pub mod Ending
+pub mod Run
+pub mod Works
+pub mod Words

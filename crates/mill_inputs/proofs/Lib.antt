@@ -1,0 +1,5 @@
+mod WordLaws
+mod StepLaws
+mod ReadLaws
+mod ContentLaws
+pub mod AcceptLaws

@@ -1,0 +1,115 @@
+// The words of `mill`.
+ghost use Rattle.std.specs.Prelude.{◌≡◌, ◌&&◌, MatchResult, drop, length, not, nat_le, slice_get, string_bytes, is_ok};
+ghost use Rattle.std.specs.List.{list_all, position};
+ghost use Rattle.std.specs.Option.{option_copied};
+ghost use Rattle.job_file.specs.Numbers.{is_printable as is_printable_in};
+ghost use Rattle.endings.specs.Words.{texts, word, exactly, is_dashed as is_dashed_in, is_file_word as is_file_word_in};
+ghost use Rattle.mill_inputs.specs.Words.{is_job_word as is_job_word_in, job_place, job_words, words_of};
+
+use text_cut::{after, split_once};
+
+// The word in this place, from 0.
+fn text_at<'a>(words: &'a Vec<String>, place: usize) -> Option<&'a str>
+    ensures { option_copied result ≡ slice_get (texts words.now) place }
+{
+    match words.get(place) {
+        Some(word) => Some(word.as_str()),
+        None => None,
+    }
+}
+
+// Whether the first word is this text.
+fn begins_with(words: &Vec<String>, text: &str) -> bool
+    ensures { result ≡ is_ok (word 1 (exactly text.now) (texts words.now)) }
+{
+    match text_at(words, 0) {
+        Some(word) => word == text,
+        None => false,
+    }
+}
+
+// Whether the text is printable ASCII.
+fn is_printable(text: &[u8]) -> bool
+    ensures { result ≡ list_all is_printable_in text.now }
+{
+    text.iter().all(|b| 32 <= *b && *b <= 126)
+}
+
+// Whether the word begins with two dashes.
+fn is_dashed(word: &[u8]) -> bool
+    ensures { result ≡ is_dashed_in word.now }
+{
+    after(word, b"--").is_some()
+}
+
+// Whether the text has so many bytes as a name may have.
+fn is_short(text: &[u8]) -> bool
+    ensures { result ≡ (nat_le 1 (length text.now) && nat_le (length text.now) 200) }
+{
+    1 <= text.len() && text.len() <= 200
+}
+
+// Whether the word is a name that isn't taken for a line of the job.
+fn is_file_word(word: &[u8]) -> bool
+    ensures { result ≡ is_file_word_in word.now }
+{
+    is_short(word) && is_printable(word) && !is_dashed(word)
+}
+
+// Whether the word is a line of the job.
+fn is_job_word(word: &[u8]) -> bool
+    ensures { result ≡ is_job_word_in word.now }
+{
+    is_dashed(word) && split_once(word, b'=').is_some()
+}
+
+// The place, from the third word on, of the first that isn't a line of the job.
+fn first_other(words: &Vec<String>) -> Option<usize>
+    ensures { result ≡ position (λ w. not (is_job_word_in (string_bytes w))) (drop 2 words.now.items) }
+{
+    words
+        .iter()
+        .skip(2)
+        .position(|word| !is_job_word(word.as_bytes()))
+}
+
+// Where the job stands by the second word, or the number of that word.
+fn read_place<'a>(words: &'a Vec<String>) -> Result<Option<&'a str>, usize>
+    ensures { MatchResult result
+        (λ place. word 2 job_place (texts words.now) ≡ Ok (option_copied place))
+        (λ number. word 2 job_place (texts words.now) ≡ Err number) }
+{
+    match text_at(words, 1) {
+        Some(word) if word == "-" => Ok(None),
+        Some(word) if is_file_word(word.as_bytes()) => Ok(Some(word)),
+        _ => Err(2),
+    }
+}
+
+// The number of the first word from the third on that isn't a line of the job.
+fn read_rest(words: &Vec<String>) -> Result<(), usize>
+    ensures { MatchResult result
+        (λ _. job_words 3 (texts words.now) ≡ Ok 3)
+        (λ number. job_words 3 (texts words.now) ≡ Err number) }
+{
+    match first_other(words) {
+        Some(place) => Err(place + 3),
+        None => Ok(()),
+    }
+}
+
+/// The name of the job's file, or none where the job has no file, if the words are those of `mill`; else the number of
+/// the first word outside the grammar, from 1.
+#[tactic(auto, unfolding(crate::specs::Words::words_of))]
+pub fn read_words<'a>(words: &'a Vec<String>) -> Result<Option<&'a str>, usize>
+    ensures value { MatchResult result
+        (λ place. words_of (texts words.now) ≡ Ok (option_copied place))
+        (λ number. words_of (texts words.now) ≡ Err number) }
+{
+    if !begins_with(words, "mill") {
+        return Err(1);
+    }
+    let place = read_place(words)?;
+    read_rest(words)?;
+    Ok(place)
+}

@@ -1,0 +1,117 @@
+-- What holds of what was accepted.
+use Rattle.std.proofs.Common.{◌≡◌, ℕ, List, Option, Some, None, Result, Ok, Err, refl, sym, ap, subst}
+use Rattle.std.specs.Prelude.{IfSome}
+use Rattle.std.specs.Option.{option_map}
+use Rattle.board_base.specs.Binds.{◌>>=◌}
+use Rattle.shape_parts.specs.declared.shape.Painted.{Painted}
+use Rattle.board_base.specs.declared.places.Role.TheVariants as roles
+use Rattle.excellon.specs.Fits.{IsDrilled}
+use Rattle.excellon.specs.declared.file.DrillFile.{DrillFile}
+use Rattle.excellon.specs.declared.file.DrillError.{DrillError}
+use Rattle.excellon.specs.Drill.{drill_of}
+use Rattle.job_file.specs.declared.job.Job.{Job}
+use Rattle.job_file.specs.declared.error.JobKind.{JobKind}
+use Rattle.job_file.specs.declared.error.JobError.{JobError}
+use Rattle.job_file.specs.declared.given.Sheets.{Sheets}
+use Rattle.job_file.specs.Lines.{file_lines, word_lines}
+use Rattle.job_file.specs.Values.{value_of, place_of}
+use Rattle.job_file.specs.Reading.{lines_give}
+use Rattle.job_file.specs.Job.{job_of}
+use Rattle.job_file.specs.Checks.{fault_of}
+use Rattle.job_file.specs.Read.{judged, job_given, job_read}
+use Rattle.job_file.specs.Ranges.{IsInRanges}
+use Rattle.job_file.specs.Together.{GoTogether}
+use Rattle.job_file.proofs.FitLaws.{step}
+use Rattle.job_file.proofs.RangeLaws.{lines_fit, reads_in_ranges}
+use Rattle.job_file.proofs.TogetherLaws.{go_together}
+use Rattle.endings.specs.declared.status.Status.{Status}
+use Rattle.endings.specs.Answers.{usage}
+use Rattle.endings.specs.Reads.{Reading}
+use Rattle.mill_inputs.specs.Words.{words_of}
+use Rattle.mill_inputs.specs.Accepted.{Accepts, IsDrillOf, Inputs, mirrored, job_bytes, job_or_refused, job_in, inputs_of, image_if, drilled_or_refused, drilled, drilled_if, accepted, contents_of}
+use Rattle.mill_outputs.proofs.DrilledLaws.{drilled_law}
+use Rattle.mill_outputs.proofs.PlanLaws.{ok_is}
+
+-- ---- the job
+
+judged_ok : (place : ℕ → ℕ) (made job : Job) (fault : Option (JobKind × ℕ)) → judged place made fault ≡ Ok job → (fault ≡ None) × (made ≡ job)
+judged_ok place made job None e = (refl, cc)
+judged_ok place made job (Some f) e = absurd cc
+
+-- a job that lines and words give is in its ranges, and its values go together
+job_stands : (bytes : List ℕ) (words : List (List ℕ)) (job : Job) → job_read bytes words None ≡ Ok job → IsInRanges job × GoTogether None job
+unfolding job_read job_given
+job_stands bytes words job e =
+    let file = step (lines_give (file_lines bytes)) _ job e in
+    let given = step (lines_give (word_lines words)) _ job file.2 in
+    let sheets : Sheets = record { words = given.0; file = file.0 } in
+    let made = judged_ok (place_of sheets) (job_of (value_of sheets)) job (fault_of None (job_of (value_of sheets))) given.2 in (
+      reads_in_ranges sheets job (record { words_fit = lines_fit (word_lines words) given.0 given.1; file_fits = lines_fit (file_lines bytes) file.0 file.1 }) (sym made.1),
+      go_together None job (subst (λ j. fault_of None j ≡ None) made.1 made.0),
+    )
+
+job_in_ok : (r : Result Job JobError) (job : Job) → job_or_refused r ≡ Ok job → r ≡ Ok job
+job_in_ok (Ok j) job e = let same : j ≡ job = cc in ap Ok same
+job_in_ok (Err error) job e = absurd cc
+
+-- ---- what is drilled
+
+drilled_ok : (r : Result DrillFile DrillError) (file : DrillFile) → drilled_or_refused r ≡ Ok file → r ≡ Ok file
+drilled_ok (Ok f) file e = let same : f ≡ file = cc in ap Ok same
+drilled_ok (Err error) file e = absurd cc
+
+drill_stands : (bytes : Option (List ℕ)) (drill : Option DrillFile) → drilled_if bytes ≡ Ok drill → IsDrillOf drill
+drill_stands None drill e = subst IsDrillOf (ok_is None drill e) tt
+drill_stands (Some bytes) drill e =
+    let file = step (drilled bytes) (λ file. Ok (Some file)) drill e in
+    subst IsDrillOf (ok_is (Some file.0) drill file.2) (bytes, drilled_ok (drill_of bytes) file.0 file.1)
+
+all_drilled : (drill : Option DrillFile) → IsDrillOf drill → IfSome drill IsDrilled
+all_drilled None stands = tt
+all_drilled (Some file) stands = drilled_law stands.0 file stands.1
+
+-- ---- all of it
+
+-- the job is in its ranges, its values go together, and what is drilled stands in some bytes and on the board
+pub record IsAccepted (x : Accepts) : Type 0 where
+  pub ranges : IsInRanges x.job
+  pub together : GoTogether None x.job
+  pub drilled : IfSome x.drill IsDrilled
+  pub stands : IsDrillOf x.drill
+
+job_is : (one other : Accepts) → one ≡ other → one.job ≡ other.job
+job_is one other same = ap (λ (x : Accepts). x.job) same
+
+drill_is : (one other : Accepts) → one ≡ other → one.drill ≡ other.drill
+drill_is one other same = ap (λ (x : Accepts). x.drill) same
+
+-- the job and what is drilled, as they were read
+contents_stand : (job : Job) (raw : Inputs) (x : Accepts) → contents_of job raw ≡ Ok x → (job ≡ x.job) × IsDrillOf x.drill
+unfolding contents_of
+contents_stand job raw x e =
+    let made : Option (List Painted) → Option (List Painted) → Option DrillFile → Accepts = λ front back drill. record { job = job; front = front; back = option_map mirrored back; drill = drill } in
+    let front = step (image_if roles.Front raw.front) (λ front. image_if roles.Back raw.back >>= (λ back. drilled_if raw.drill >>= (λ drill. Ok (made front back drill)))) x e in
+    let back = step (image_if roles.Back raw.back) (λ back. drilled_if raw.drill >>= (λ drill. Ok (made front.0 back drill))) x front.2 in
+    let drill = step (drilled_if raw.drill) (λ drill. Ok (made front.0 back.0 drill)) x back.2 in
+    let same = ok_is (made front.0 back.0 drill.0) x drill.2 in
+    let its_job : job ≡ x.job = job_is (made front.0 back.0 drill.0) x same in
+    let its_drill : drill.0 ≡ x.drill = drill_is (made front.0 back.0 drill.0) x same in
+    (its_job, subst IsDrillOf its_drill (drill_stands raw.drill drill.0 drill.1))
+
+pub accepted_stands : (words : List (List ℕ)) (given : Reading) (x : Accepts) → accepted words given ≡ Ok x → IsAccepted x
+unfolding accepted
+accepted_stands words given x e =
+    let behind_job : Job → Result Accepts Status = λ job. inputs_of job given >>= (λ raw. contents_of job raw) in
+    let behind_text : List ℕ → Result Accepts Status = λ text. job_in text words >>= behind_job in
+    let place = step (usage (words_of words)) (λ place. job_bytes place given >>= behind_text) x e in
+    let text = step (job_bytes place.0 given) behind_text x place.2 in
+    let job = step (job_in text.0 words) behind_job x text.2 in
+    let raw = step (inputs_of job.0 given) (λ raw. contents_of job.0 raw) x job.2 in
+    let contents = contents_stand job.0 raw.0 x raw.2 in
+    let good = job_stands text.0 words job.0 (job_in_ok _ job.0 job.1) in
+    record {
+      ranges = subst IsInRanges contents.0 good.0;
+      together = subst (GoTogether None) contents.0 good.1;
+      drilled = all_drilled x.drill contents.1;
+      stands = contents.1;
+    }

@@ -1,0 +1,11 @@
+pub mod ReportLaws
+pub mod PlanLaws
+pub mod MillLaws
+pub mod StoredLaws
+pub mod FileLaws
+pub mod SideLaws
+pub mod HoleLaws
+pub mod DrilledLaws
+pub mod AcceptedLaws
+pub mod HeadlineLaws
+pub mod AnswerLaws

@@ -1,0 +1,5 @@
+pub mod Report
+pub mod Planned
+pub mod Mill
+pub mod Headline
+pub mod Done
