@@ -1,7 +1,11 @@
 // Commands that are carried out.
+ghost use Rattle.std.specs.List.{All};
+ghost use Rattle.move_watch.specs.Watch.{IsFresh};
+
 use crate::boards::TWO_DISCS;
 use board_base::{MemoryShelf, MemorySink};
 use mill_top::{Status, run};
+use move_watch::Watcher;
 use std::alloc::Global;
 use std::test::Fail;
 
@@ -34,7 +38,7 @@ pub fn with_a_put_that_fails(
     let words = texts(alloc, words)?;
     let mut sink = MemorySink::new(alloc);
     sink.fail_put(put);
-    let status = run(alloc, &words, shelf, &mut sink);
+    let status = run(alloc, &words, shelf, &mut sink, Vec::new(alloc));
     Ok((status, sink.bytes().to_vec(alloc)?))
 }
 
@@ -45,6 +49,21 @@ pub fn carried_out(
     shelf: &mut MemoryShelf,
 ) -> Result<(Status, Vec<u8>), Fail> {
     with_a_put_that_fails(alloc, words, shelf, 0)
+}
+
+/// The same under watchers.
+pub fn watched(
+    alloc: Global,
+    words: &[&str],
+    shelf: &mut MemoryShelf,
+    watchers: Vec<Box<dyn Watcher>>,
+) -> Result<(Status, Vec<u8>), Fail>
+    requires { All (λ w. IsFresh (watch w)) watchers.items }
+{
+    let words = texts(alloc, words)?;
+    let mut sink = MemorySink::new(alloc);
+    let status = run(alloc, &words, shelf, &mut sink, watchers);
+    Ok((status, sink.bytes().to_vec(alloc)?))
 }
 
 /// A shelf with a layer under the name a.gbr.

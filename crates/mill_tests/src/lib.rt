@@ -16,4 +16,6 @@ mod lines;
 #[cfg(test)]
 mod sides;
 #[cfg(test)]
+mod simulations;
+#[cfg(test)]
 mod words;

@@ -1,0 +1,73 @@
+use Rattle.std.proofs.Common.{subst}
+use Rattle.std.specs.Prelude.{string_bytes}
+use Rattle.endings.specs.Words.{texts}
+use Rattle.endings.specs.Works.{ToldBehind}
+use Rattle.endings.proofs.AloneLaws.{leaves_alone, cause_alone, lines_alone, answers_alone}
+use Rattle.endings.proofs.RunLaws.{leaves_told, cause_told, lines_told, answers_told}
+use Rattle.simulation.specs.Words.{words_of}
+use Rattle.simulation.specs.Simulated.{SimulationEnds}
+use Rattle.simulation.proofs.EndLaws.{only_told, refusal_answered}
+use Rattle.mill_top.proofs.SimulateLaws.{refusal_puts, usage_told, usage_behind}
+use Rattle.mill_top.proofs.simulating.run_simulation.Goals as goal
+
+-- ---- a run that came to its end
+
+pub returns-in-Ok-clause-leaves : goal.returns-in-Ok-clause-leaves
+returns-in-Ok-clause-leaves g c =
+    leaves_alone (SimulationEnds _ (texts c.args.words.now)) (string_bytes c.in-Ok.simulation.lines) c.in-Ok.simulation.status c.tell_lines.result (g.S.Shelf.state c.args.shelf.now) (g.S.Shelf.state c.simulate_numbered.new.shelf) (g.K.Sink.state c.args.out.now) (g.K.Sink.state c.tell_lines.new.out)
+    c.in-Ok.ensures.works c.tell_lines.ensures.status
+
+pub returns-in-Ok-clause-lines : goal.returns-in-Ok-clause-lines
+returns-in-Ok-clause-lines g c =
+    lines_alone (SimulationEnds _ (texts c.args.words.now)) (string_bytes c.in-Ok.simulation.lines) c.in-Ok.simulation.status c.tell_lines.result (g.S.Shelf.state c.args.shelf.now) (g.S.Shelf.state c.simulate_numbered.new.shelf) (g.K.Sink.state c.args.out.now) (g.K.Sink.state c.tell_lines.new.out)
+    c.in-Ok.ensures.works (subst (λ lines. ToldBehind lines c.in-Ok.simulation.status c.tell_lines.result (g.K.Sink.state c.args.out.now) (g.K.Sink.state c.tell_lines.new.out)) c.as_bytes.ensures.value c.tell_lines.ensures.told)
+
+pub returns-in-Ok-clause-usage : goal.returns-in-Ok-clause-usage
+returns-in-Ok-clause-usage g c =
+    usage_behind (words_of (texts c.args.words.now)) c.in-Ok.simulation.status c.tell_lines.result (g.K.Sink.state c.args.out.now) (g.K.Sink.state c.tell_lines.new.out)
+    c.in-Ok.ensures.works.comes c.in-Ok.ensures.usage c.tell_lines.ensures.status
+
+pub returns-in-Ok-clause-cause : goal.returns-in-Ok-clause-cause
+returns-in-Ok-clause-cause g c =
+    cause_alone (SimulationEnds _ (texts c.args.words.now)) (string_bytes c.in-Ok.simulation.lines) c.in-Ok.simulation.status c.tell_lines.result (g.S.Shelf.state c.args.shelf.now) (g.S.Shelf.state c.simulate_numbered.new.shelf) (g.K.Sink.state c.args.out.now) (g.K.Sink.state c.tell_lines.new.out)
+    c.in-Ok.ensures.works c.tell_lines.ensures.status
+
+pub returns-in-Ok-clause-answers : goal.returns-in-Ok-clause-answers
+returns-in-Ok-clause-answers g c =
+    answers_alone (SimulationEnds _ (texts c.args.words.now)) (string_bytes c.in-Ok.simulation.lines) c.in-Ok.simulation.status c.tell_lines.result (g.S.Shelf.state c.args.shelf.now) (g.S.Shelf.state c.simulate_numbered.new.shelf) (g.K.Sink.state c.args.out.now) (g.K.Sink.state c.tell_lines.new.out)
+    c.in-Ok.ensures.works c.tell_lines.ensures.status
+    (only_told _ (texts c.args.words.now) c.in-Ok.simulation (g.S.Shelf.state c.args.shelf.now) (g.S.Shelf.state c.simulate_numbered.new.shelf) c.in-Ok.ensures.gives)
+
+-- ---- a refusal
+
+pub returns-in-Err-clause-leaves : goal.returns-in-Err-clause-leaves
+returns-in-Err-clause-leaves g c =
+    leaves_told (SimulationEnds _ (texts c.args.words.now)) c.in-Err.status c.tell.result
+    (refusal_puts _ (texts c.args.words.now) c.in-Err.status (g.S.Shelf.state c.args.shelf.now) (g.S.Shelf.state c.simulate_numbered.new.shelf) c.in-Err.ensures.gives)
+    (g.S.Shelf.state c.args.shelf.now) (g.S.Shelf.state c.simulate_numbered.new.shelf) (g.K.Sink.state c.args.out.now) (g.K.Sink.state c.tell.new.out)
+    c.in-Err.ensures.works c.tell.ensures.told
+
+pub returns-in-Err-clause-lines : goal.returns-in-Err-clause-lines
+returns-in-Err-clause-lines g c =
+    lines_told (SimulationEnds _ (texts c.args.words.now)) c.in-Err.status c.tell.result
+    (refusal_puts _ (texts c.args.words.now) c.in-Err.status (g.S.Shelf.state c.args.shelf.now) (g.S.Shelf.state c.simulate_numbered.new.shelf) c.in-Err.ensures.gives)
+    (g.S.Shelf.state c.args.shelf.now) (g.S.Shelf.state c.simulate_numbered.new.shelf) (g.K.Sink.state c.args.out.now) (g.K.Sink.state c.tell.new.out)
+    c.in-Err.ensures.works c.tell.ensures.told
+
+pub returns-in-Err-clause-usage : goal.returns-in-Err-clause-usage
+returns-in-Err-clause-usage g c =
+    usage_told (words_of (texts c.args.words.now)) c.in-Err.status c.tell.result (g.K.Sink.state c.args.out.now) (g.K.Sink.state c.tell.new.out)
+    c.in-Err.ensures.usage c.tell.ensures.status
+
+pub returns-in-Err-clause-cause : goal.returns-in-Err-clause-cause
+returns-in-Err-clause-cause g c =
+    cause_told (SimulationEnds _ (texts c.args.words.now)) c.in-Err.status c.tell.result (g.S.Shelf.state c.args.shelf.now) (g.S.Shelf.state c.simulate_numbered.new.shelf) (g.K.Sink.state c.args.out.now) (g.K.Sink.state c.tell.new.out)
+    c.in-Err.ensures.works c.tell.ensures.status
+
+pub returns-in-Err-clause-answers : goal.returns-in-Err-clause-answers
+returns-in-Err-clause-answers g c =
+    answers_told (SimulationEnds _ (texts c.args.words.now)) c.in-Err.status c.tell.result
+    (refusal_puts _ (texts c.args.words.now) c.in-Err.status (g.S.Shelf.state c.args.shelf.now) (g.S.Shelf.state c.simulate_numbered.new.shelf) c.in-Err.ensures.gives)
+    (g.S.Shelf.state c.args.shelf.now) (g.S.Shelf.state c.simulate_numbered.new.shelf) (g.K.Sink.state c.args.out.now) (g.K.Sink.state c.tell.new.out)
+    c.tell.ensures.status
+    (refusal_answered _ (texts c.args.words.now) c.in-Err.status (g.S.Shelf.state c.args.shelf.now) (g.S.Shelf.state c.simulate_numbered.new.shelf) c.in-Err.ensures.gives)
