@@ -6,7 +6,7 @@ use Rattle.board_base.specs.Files.{Files}
 use Rattle.board_base.specs.Shelf.{ShelfState}
 use Rattle.board_base.specs.Sink.{SinkState, appended}
 use Rattle.endings.specs.declared.status.Status.{Status}
-use Rattle.endings.specs.declared.status.Status.TheVariants.{Done, Usage, Job, Gerber, Drill, TooLong, Limit, ReadFault, WriteFault, Ngc, Watch, Memory}
+use Rattle.endings.specs.declared.status.Status.TheVariants.{Done, Usage, Job, Gerber, Drill, Outline, TooLong, Limit, ReadFault, WriteFault, Ngc, Watch, Memory}
 use Rattle.endings.specs.Answers.{IfTold}
 use Rattle.endings.specs.Lines.{line_of}
 use Rattle.endings.specs.Outputs.{all_stored, IsStopped}
@@ -37,6 +37,7 @@ ok_some (Usage word) lines some = some
 ok_some (Job error) lines some = some
 ok_some (Gerber role error) lines some = some
 ok_some (Drill error) lines some = some
+ok_some (Outline error) lines some = some
 ok_some (TooLong role) lines some = some
 ok_some (Limit hit) lines some = some
 ok_some (ReadFault role) lines some = some
@@ -52,6 +53,7 @@ leaves_as ends lines (Usage word) before now w = absurd w.comes
 leaves_as ends lines (Job error) before now w = absurd w.comes
 leaves_as ends lines (Gerber role error) before now w = absurd w.comes
 leaves_as ends lines (Drill error) before now w = absurd w.comes
+leaves_as ends lines (Outline error) before now w = absurd w.comes
 leaves_as ends lines (TooLong role) before now w = absurd w.comes
 leaves_as ends lines (Limit hit) before now w = absurd w.comes
 leaves_as ends lines (ReadFault role) before now w = absurd w.comes
@@ -66,6 +68,7 @@ cause_as ends lines (Usage word) before now k l w = absurd w.comes
 cause_as ends lines (Job error) before now k l w = absurd w.comes
 cause_as ends lines (Gerber role error) before now k l w = absurd w.comes
 cause_as ends lines (Drill error) before now k l w = absurd w.comes
+cause_as ends lines (Outline error) before now k l w = absurd w.comes
 cause_as ends lines (TooLong role) before now k l w = absurd w.comes
 cause_as ends lines (Limit hit) before now k l w = absurd w.comes
 cause_as ends lines (ReadFault role) before now k l w = absurd w.comes
@@ -113,6 +116,7 @@ lines_alone ends lines (Usage word) result before now k l w told = absurd w.come
 lines_alone ends lines (Job error) result before now k l w told = absurd w.comes
 lines_alone ends lines (Gerber role error) result before now k l w told = absurd w.comes
 lines_alone ends lines (Drill error) result before now k l w told = absurd w.comes
+lines_alone ends lines (Outline error) result before now k l w told = absurd w.comes
 lines_alone ends lines (TooLong role) result before now k l w told = absurd w.comes
 lines_alone ends lines (Limit hit) result before now k l w told = absurd w.comes
 lines_alone ends lines (ReadFault role) result before now k l w told = absurd w.comes

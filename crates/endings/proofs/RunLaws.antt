@@ -6,7 +6,7 @@ use Rattle.board_base.specs.Sink.{SinkState, appended}
 use Rattle.board_base.specs.Files.{Files}
 use Rattle.board_base.specs.Shelf.{ShelfState, OnlyReads}
 use Rattle.endings.specs.declared.status.Status.{Status}
-use Rattle.endings.specs.declared.status.Status.TheVariants.{Done, Usage, Job, Gerber, Drill, TooLong, Limit, ReadFault, WriteFault, Ngc, Watch, Memory}
+use Rattle.endings.specs.declared.status.Status.TheVariants.{Done, Usage, Job, Gerber, Drill, Outline, TooLong, Limit, ReadFault, WriteFault, Ngc, Watch, Memory}
 use Rattle.endings.specs.Answers.{IfTold, ToldAnd}
 use Rattle.endings.specs.Lines.{line_of}
 use Rattle.endings.specs.Outputs.{all_stored, IsStopped}
@@ -43,6 +43,7 @@ refuses_weaker R Q (Usage word) before now weaker r = (r.0, r.1, weaker r.0 (Usa
 refuses_weaker R Q (Job error) before now weaker r = (r.0, r.1, weaker r.0 (Job error) r.2)
 refuses_weaker R Q (Gerber role error) before now weaker r = (r.0, r.1, weaker r.0 (Gerber role error) r.2)
 refuses_weaker R Q (Drill error) before now weaker r = (r.0, r.1, weaker r.0 (Drill error) r.2)
+refuses_weaker R Q (Outline error) before now weaker r = (r.0, r.1, weaker r.0 (Outline error) r.2)
 refuses_weaker R Q (TooLong role) before now weaker r = (((r.0).0, (r.0).1, weaker (r.0).0 (TooLong role) (r.0).2), r.1)
 refuses_weaker R Q (Limit hit) before now weaker r = (r.0, r.1, weaker r.0 (Limit hit) r.2)
 refuses_weaker R Q (Ngc role fault line) before now weaker r = (r.0, r.1, weaker r.0 (Ngc role fault line) r.2)
@@ -60,6 +61,7 @@ works_refused ends (Usage word) before now keeps r = (keeps.files, keeps.writes,
 works_refused ends (Job error) before now keeps r = (keeps.files, keeps.writes, r)
 works_refused ends (Gerber role error) before now keeps r = (keeps.files, keeps.writes, r)
 works_refused ends (Drill error) before now keeps r = (keeps.files, keeps.writes, r)
+works_refused ends (Outline error) before now keeps r = (keeps.files, keeps.writes, r)
 works_refused ends (TooLong role) before now keeps r = (keeps.files, keeps.writes, r)
 works_refused ends (Limit hit) before now keeps r = (keeps.files, keeps.writes, r)
 works_refused ends (Ngc role fault line) before now keeps r = (keeps.files, keeps.writes, r)
@@ -116,6 +118,8 @@ leaves_told ends (Gerber role error) result ok before now k l w (inl (is, got)) 
 leaves_told ends (Gerber role error) result ok before now k l w (inr (is, same)) = subst (λ s. Leaves ends s before now) (sym is) (inl w.0)
 leaves_told ends (Drill error) result ok before now k l w (inl (is, got)) = subst (λ s. Leaves ends s before now) (sym is) (w.0, w.1)
 leaves_told ends (Drill error) result ok before now k l w (inr (is, same)) = subst (λ s. Leaves ends s before now) (sym is) (inl w.0)
+leaves_told ends (Outline error) result ok before now k l w (inl (is, got)) = subst (λ s. Leaves ends s before now) (sym is) (w.0, w.1)
+leaves_told ends (Outline error) result ok before now k l w (inr (is, same)) = subst (λ s. Leaves ends s before now) (sym is) (inl w.0)
 leaves_told ends (TooLong role) result ok before now k l w (inl (is, got)) = subst (λ s. Leaves ends s before now) (sym is) (w.0, w.1)
 leaves_told ends (TooLong role) result ok before now k l w (inr (is, same)) = subst (λ s. Leaves ends s before now) (sym is) (inl w.0)
 leaves_told ends (Limit hit) result ok before now k l w (inl (is, got)) = subst (λ s. Leaves ends s before now) (sym is) (w.0, w.1)
@@ -140,6 +144,7 @@ cause_told ends status result before now k l w (inl is) = subst (λ s. HasCause 
     by_status (Job error) w = from_refusal (Job error) w.2
     by_status (Gerber role error) w = from_refusal (Gerber role error) w.2
     by_status (Drill error) w = from_refusal (Drill error) w.2
+    by_status (Outline error) w = from_refusal (Outline error) w.2
     by_status (TooLong role) w = (from_refusal (TooLong role) (w.2).0, (w.2).1)
     by_status (Limit hit) w = from_refusal (Limit hit) w.2
     by_status (Ngc role fault line) w = from_refusal (Ngc role fault line) w.2
@@ -181,6 +186,8 @@ lines_told ends (Gerber role error) result ok before now k l w (inl (is, got)) =
 lines_told ends (Gerber role error) result ok before now k l w (inr (is, same)) = subst (λ s. Tells ends s before now k l) (sym is) (inl (0, same ∙ sym (appended_nothing k.text)))
 lines_told ends (Drill error) result ok before now k l w (inl (is, got)) = subst (λ s. Tells ends s before now k l) (sym is) ((w.2).0, (w.2).1, refusal (Drill error), (w.2).2, (refl, got))
 lines_told ends (Drill error) result ok before now k l w (inr (is, same)) = subst (λ s. Tells ends s before now k l) (sym is) (inl (0, same ∙ sym (appended_nothing k.text)))
+lines_told ends (Outline error) result ok before now k l w (inl (is, got)) = subst (λ s. Tells ends s before now k l) (sym is) ((w.2).0, (w.2).1, refusal (Outline error), (w.2).2, (refl, got))
+lines_told ends (Outline error) result ok before now k l w (inr (is, same)) = subst (λ s. Tells ends s before now k l) (sym is) (inl (0, same ∙ sym (appended_nothing k.text)))
 lines_told ends (TooLong role) result ok before now k l w (inl (is, got)) = subst (λ s. Tells ends s before now k l) (sym is) (((w.2).0).0, ((w.2).0).1, refusal (TooLong role), ((w.2).0).2, (refl, got))
 lines_told ends (TooLong role) result ok before now k l w (inr (is, same)) = subst (λ s. Tells ends s before now k l) (sym is) (inl (0, same ∙ sym (appended_nothing k.text)))
 lines_told ends (Limit hit) result ok before now k l w (inl (is, got)) = subst (λ s. Tells ends s before now k l) (sym is) ((w.2).0, (w.2).1, refusal (Limit hit), (w.2).2, (refl, got))

@@ -7,7 +7,7 @@ use Rattle.board_base.specs.declared.places.Role.TheVariants as roles
 use Rattle.board_base.specs.Counts.{Rose, RoseBy}
 use Rattle.board_base.specs.Sink.{SinkState, appended, AppendsPrefix}
 use Rattle.endings.specs.declared.status.Status.{Status}
-use Rattle.endings.specs.declared.status.Status.TheVariants.{Done, Usage, Job, Gerber, Drill, TooLong, Limit, ReadFault, WriteFault, Ngc, Watch, Memory}
+use Rattle.endings.specs.declared.status.Status.TheVariants.{Done, Usage, Job, Gerber, Drill, Outline, TooLong, Limit, ReadFault, WriteFault, Ngc, Watch, Memory}
 use Rattle.endings.specs.Lines.{line_of}
 use Rattle.endings.specs.Run.{Got}
 use Rattle.endings.specs.Works.{Told, ToldBehind, BrokeOff, RefusalTold}
@@ -119,6 +119,7 @@ told_behind lines (Usage word) result before between now e more told = refusal_b
 told_behind lines (Job error) result before between now e more told = refusal_behind lines (Job error) result before between now e more told
 told_behind lines (Gerber role error) result before between now e more told = refusal_behind lines (Gerber role error) result before between now e more told
 told_behind lines (Drill error) result before between now e more told = refusal_behind lines (Drill error) result before between now e more told
+told_behind lines (Outline error) result before between now e more told = refusal_behind lines (Outline error) result before between now e more told
 told_behind lines (TooLong role) result before between now e more told = refusal_behind lines (TooLong role) result before between now e more told
 told_behind lines (Limit hit) result before between now e more told = refusal_behind lines (Limit hit) result before between now e more told
 told_behind lines (ReadFault role) result before between now e more told = refusal_behind lines (ReadFault role) result before between now e more told
@@ -134,6 +135,7 @@ broke_told lines (Usage word) result before now broke = inr broke
 broke_told lines (Job error) result before now broke = inr broke
 broke_told lines (Gerber role error) result before now broke = inr broke
 broke_told lines (Drill error) result before now broke = inr broke
+broke_told lines (Outline error) result before now broke = inr broke
 broke_told lines (TooLong role) result before now broke = inr broke
 broke_told lines (Limit hit) result before now broke = inr broke
 broke_told lines (ReadFault role) result before now broke = inr broke
@@ -149,6 +151,7 @@ refusal_told (Usage word) result before now other told = told
 refusal_told (Job error) result before now other told = told
 refusal_told (Gerber role error) result before now other told = told
 refusal_told (Drill error) result before now other told = told
+refusal_told (Outline error) result before now other told = told
 refusal_told (TooLong role) result before now other told = told
 refusal_told (Limit hit) result before now other told = told
 refusal_told (Ngc role fault line) result before now other told = told

@@ -6,13 +6,15 @@ use Rattle.board_base.specs.declared.places.Role.TheVariants.{Job, Front, Back, 
 use Rattle.mill_plan.specs.declared.limits.LimitHit.{LimitHit}
 use Rattle.mill_plan.specs.declared.limits.LimitHit.TheVariants as hits
 use Rattle.endings.specs.declared.status.Status.{Status}
-use Rattle.endings.specs.declared.status.Status.TheVariants.{Done, Usage, Job as RefusedJob, Gerber, Drill as RefusedDrill, TooLong, Limit, ReadFault, WriteFault, Ngc as RefusedNgc, Watch, Memory}
+use Rattle.endings.specs.declared.status.Status.TheVariants.{Done, Usage, Job as RefusedJob, Gerber, Drill as RefusedDrill, Outline as RefusedOutline, TooLong, Limit, ReadFault, WriteFault, Ngc as RefusedNgc, Watch, Memory}
 use Rattle.endings.specs.declared.status.NgcOrSim.{NgcOrSim}
 use Rattle.endings.specs.declared.status.NgcOrSim.TheVariants.{Reader, Machine}
 use Rattle.macro_eval.specs.declared.fault.MacroFault.{MacroFault}
 use Rattle.macro_eval.specs.declared.fault.MacroFault.TheVariants as faults
 use Rattle.excellon.specs.declared.file.DrillKind.{DrillKind}
 use Rattle.excellon.specs.declared.file.DrillKind.TheVariants as drills
+use Rattle.outline_loops.specs.declared.refusals.OutlineError.{OutlineError}
+use Rattle.outline_loops.specs.declared.refusals.OutlineError.TheVariants as outlines
 use Rattle.job_file.specs.declared.error.JobError.{JobError}
 use Rattle.job_file.specs.declared.error.JobKind.{JobKind}
 use Rattle.job_file.specs.declared.error.JobKind.TheVariants as jobs
@@ -72,6 +74,14 @@ drill_name drills.OutOfRange = codes "OutOfRange"
 drill_name drills.TooMany = codes "TooMany"
 drill_name drills.NoEnd = codes "NoEnd"
 drill_name drills.Memory = codes "Memory"
+
+-- the name of what is wrong with an outline; of an open end, where it is, in nanometres, and how many lines meet there
+abbrev pub outline_text : OutlineError → List ℕ
+outline_text (outlines.OpenOutline at degree) =
+    codes "OpenOutline " ++ signed_decimal at.x ++ codes " " ++ signed_decimal at.y ++ codes " degree " ++ decimal degree
+outline_text outlines.EmptyOutline = codes "EmptyOutline"
+outline_text (outlines.TooManyPoints count) = codes "TooManyPoints"
+outline_text outlines.Memory = codes "Memory"
 
 -- the name of what is wrong with a job
 abbrev pub job_name : JobKind → List ℕ
@@ -137,6 +147,7 @@ line_of (Usage word) = codes "pcbmill: usage: word " ++ decimal word ++ codes "\
 line_of (RefusedJob error) = codes "pcbmill: job: " ++ job_text error ++ codes "\n"
 line_of (Gerber role error) = codes "pcbmill: " ++ role_name role ++ codes ": " ++ kind_name error.kind ++ codes " at " ++ decimal error.at ++ codes "\n"
 line_of (RefusedDrill error) = codes "pcbmill: drill: " ++ drill_name error.kind ++ codes " at " ++ decimal error.at ++ codes "\n"
+line_of (RefusedOutline error) = codes "pcbmill: outline: " ++ outline_text error ++ codes "\n"
 line_of (TooLong role) = codes "pcbmill: long " ++ role_name role ++ codes "\n"
 line_of (Limit hit) = codes "pcbmill: limit: " ++ limit_text hit ++ codes "\n"
 line_of (ReadFault role) = codes "pcbmill: read " ++ role_name role ++ codes "\n"

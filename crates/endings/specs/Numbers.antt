@@ -1,7 +1,7 @@
 -- The numbers of the statuses.
 use Rattle.std.specs.Prelude.{ℕ}
 use Rattle.endings.specs.declared.status.Status.{Status}
-use Rattle.endings.specs.declared.status.Status.TheVariants.{Done, Usage, Job, Gerber, Drill, TooLong, Limit, ReadFault, WriteFault, Ngc, Watch, Memory}
+use Rattle.endings.specs.declared.status.Status.TheVariants.{Done, Usage, Job, Gerber, Drill, Outline, TooLong, Limit, ReadFault, WriteFault, Ngc, Watch, Memory}
 
 -- the number with which a program ends
 abbrev pub number_of : Status → ℕ
@@ -10,6 +10,7 @@ number_of (Usage word) = 2
 number_of (Job error) = 3
 number_of (Gerber role error) = 4
 number_of (Drill error) = 5
+number_of (Outline error) = 6
 number_of (TooLong role) = 7
 number_of (Limit hit) = 7
 number_of (ReadFault role) = 8

@@ -19,6 +19,7 @@ pub use job_file::{JobError, JobKind};
 pub use mill_plan::LimitHit;
 pub use ngc_reader::NgcKind;
 pub use out_file::OutFile;
+pub use outline_loops::OutlineError;
 pub use rs274_sim::SimFault;
 pub use status::{NgcOrSim, Status};
 pub use telling::{tell, tell_lines};

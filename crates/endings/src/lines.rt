@@ -1,14 +1,15 @@
 // The lines that the sink gets.
 ghost use Rattle.std.specs.Prelude.{◌≡◌, IfOk, string_bytes, Some};
-ghost use Rattle.endings.specs.Lines.{line_of, role_name, kind_name, macro_name, drill_name, job_name, job_text as job_text_of, ngc_name, sim_name, fault_name, limit_text as limit_text_of};
+ghost use Rattle.endings.specs.Lines.{line_of, role_name, kind_name, macro_name, drill_name, outline_text as outline_text_of, job_name, job_text as job_text_of, ngc_name, sim_name, fault_name, limit_text as limit_text_of};
 
 use crate::{GerberKind, NgcOrSim, Status};
-use board_base::Role;
+use board_base::{Point, Role};
 use excellon::{DrillError, DrillKind};
 use job_file::{JobError, JobKind};
 use macro_eval::MacroFault;
 use mill_plan::LimitHit;
 use ngc_reader::NgcKind;
+use outline_loops::OutlineError;
 use rs274_sim::SimFault;
 use std::alloc::{AllocError, Global};
 
@@ -77,6 +78,27 @@ fn name_of_drill(kind: DrillKind) -> &'static str
         DrillKind::TooMany => "TooMany",
         DrillKind::NoEnd => "NoEnd",
         DrillKind::Memory => "Memory",
+    }
+}
+
+// An open end of an outline, and how many lines meet there.
+fn end_text(alloc: Global, at: Point, degree: u32) -> Result<String, AllocError>
+    ensures { IfOk result (λ text. string_bytes text ≡ outline_text_of (OutlineError.OpenOutline at degree)) }
+{
+    let x = at.x;
+    let y = at.y;
+    Ok(format!(in alloc; "OpenOutline {x} {y} degree {degree}")?)
+}
+
+// What is wrong with an outline.
+fn outline_text(alloc: Global, error: OutlineError) -> Result<String, AllocError>
+    ensures { IfOk result (λ text. string_bytes text ≡ outline_text_of error) }
+{
+    match error {
+        OutlineError::OpenOutline { at, degree } => end_text(alloc, at, degree),
+        OutlineError::EmptyOutline => Ok(String::from_str(alloc, "EmptyOutline")?),
+        OutlineError::TooManyPoints { .. } => Ok(String::from_str(alloc, "TooManyPoints")?),
+        OutlineError::Memory => Ok(String::from_str(alloc, "Memory")?),
     }
 }
 
@@ -178,6 +200,14 @@ fn drill_line(alloc: Global, error: DrillError) -> Result<String, AllocError>
     Ok(format!(in alloc; "pcbmill: drill: {kind} at {at}\n")?)
 }
 
+// The line of a refusal of the outline.
+fn outline_line(alloc: Global, error: OutlineError) -> Result<String, AllocError>
+    ensures { IfOk result (λ text. string_bytes text ≡ line_of (Status.Outline error)) }
+{
+    let text = outline_text(alloc, error)?;
+    Ok(format!(in alloc; "pcbmill: outline: {text}\n")?)
+}
+
 // The line of a refusal of a program.
 fn ngc_line(alloc: Global, role: Role, fault: NgcOrSim, line: u32) -> Result<String, AllocError>
     ensures { IfOk result (λ text. string_bytes text ≡ line_of (Status.Ngc role fault line)) }
@@ -212,6 +242,7 @@ pub fn line(alloc: Global, status: Status) -> Result<String, AllocError>
             Ok(format!(in alloc; "pcbmill: {role}: {kind} at {at}\n")?)
         }
         Status::Drill(error) => drill_line(alloc, error),
+        Status::Outline(error) => outline_line(alloc, error),
         Status::TooLong { role } => {
             let role = name_of(role);
             Ok(format!(in alloc; "pcbmill: long {role}\n")?)

@@ -7,6 +7,7 @@ use gerber_image::GerberError;
 use job_file::JobError;
 use mill_plan::LimitHit;
 use ngc_reader::NgcKind;
+use outline_loops::OutlineError;
 use rs274_sim::SimFault;
 
 /// What is wrong with a program: with its text, or with its run.
@@ -38,6 +39,9 @@ pub enum Status {
     },
     /// The drill file drills nothing. No status carries its kinds TooMany and Memory: they become `Limit` and `Memory`.
     Drill(DrillError),
+    /// The outline is open at an end, or has no loop. No status carries its kinds TooManyPoints and Memory: they become
+    /// `Limit` and `Memory`.
+    Outline(OutlineError),
     /// An input has more than 16,777,216 bytes.
     TooLong {
         role: Role,
@@ -81,6 +85,7 @@ impl Status {
             Status::Job(_) => 3,
             Status::Gerber { role: _, error: _ } => 4,
             Status::Drill(_) => 5,
+            Status::Outline(_) => 6,
             Status::TooLong { role: _ } => 7,
             Status::Limit(_) => 7,
             Status::ReadFault { role: _ } => 8,

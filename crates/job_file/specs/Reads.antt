@@ -97,15 +97,14 @@ read_of (kinds.Feed default) text = feed_value text
 read_of (kinds.Whole least most default) text = count_value least most text
 read_of (kinds.Percent least most default) text = count_value least most (without_percent text)
 
--- what a value of a key asks for isn't built yet: an outline, more than one tile, levelling
+-- what a value of a key asks for isn't built yet: more than one tile, levelling
 abbrev pub asks_more : Value → Bool
-asks_more (Text name) = true
 asks_more (Count n) = nat_lt 1 n
 asks_more (Truth truth) = truth
 asks_more _ = false
 
 unfoldable pub is_ahead : ℕ → Value → Bool
-is_ahead key value = (key == 4 || key == 31 || key == 32 || key == 33) && asks_more value
+is_ahead key value = (key == 31 || key == 32 || key == 33) && asks_more value
 
 -- the value that a text is of the key with this number
 unfoldable pub value_read : ℕ → List ℕ → Result Value JobKind

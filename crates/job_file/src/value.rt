@@ -290,19 +290,18 @@ fn asks_more(value: &Value) -> bool
     ensures { result ≡ asks_more_in value.now }
 {
     match value {
-        Value::Text(_) => true,
         Value::Count(n) => 1 < *n,
         Value::Truth(truth) => *truth,
         _ => false,
     }
 }
 
-// Whether what this value asks for isn't built yet: a drill file, an outline, more than one tile, levelling.
+// Whether what this value asks for isn't built yet: more than one tile, levelling.
 #[tactic(auto, unfolding(crate::specs::Reads::is_ahead))]
 fn is_ahead(key: u8, value: &Value) -> bool
     ensures { result ≡ is_ahead_in key value.now }
 {
-    let is_new = key == 4 || key == 31 || key == 32 || key == 33;
+    let is_new = key == 31 || key == 32 || key == 33;
     is_new && asks_more(value)
 }
 

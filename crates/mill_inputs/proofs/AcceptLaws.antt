@@ -12,7 +12,7 @@ use Rattle.job_file.specs.declared.error.JobKind.TheVariants as jobs
 use Rattle.job_file.specs.declared.error.JobError.{JobError}
 use Rattle.job_file.specs.Read.{job_read}
 use Rattle.endings.specs.declared.status.Status.{Status}
-use Rattle.endings.specs.declared.status.Status.TheVariants.{Done, Usage, Job as RefusedJob, Gerber, Drill, TooLong, Limit, ReadFault, WriteFault, Ngc, Watch, Memory}
+use Rattle.endings.specs.declared.status.Status.TheVariants.{Done, Usage, Job as RefusedJob, Gerber, Drill, Outline, TooLong, Limit, ReadFault, WriteFault, Ngc, Watch, Memory}
 use Rattle.endings.specs.Reads.{Reading, held_in, MayRead, without, input}
 use Rattle.endings.specs.Answers.{usage, ToldAnd, MakesOf}
 use Rattle.endings.specs.Works.{Refuses, Gives, status_of}
@@ -20,7 +20,8 @@ use Rattle.mill_inputs.specs.declared.acceptance.Accepted.{Accepted as AcceptedS
 use Rattle.mill_inputs.specs.Words.{words_of, IsExactUsage}
 use Rattle.mill_inputs.specs.Accepted.{Accepts, accepts_of, IsNamed, IsDrillOf, job_bytes, job_refused, job_or_refused, job_in, input_if, Inputs, inputs_of, contents_of, accepted}
 use Rattle.mill_inputs.proofs.StepLaws.{carries_all, refuses_onto, joins, carries_second, from_earlier, IsOfBytes, err_is, made_refuses}
-use Rattle.mill_inputs.proofs.ReadLaws.{some_reading, still, IsReadOf, job_text_refused, IsOfFiles, inputs_refused, is_job, job_apart}
+use Rattle.mill_inputs.proofs.ReadLaws.{some_reading, still, IsReadOf, job_text_refused}
+use Rattle.mill_inputs.proofs.InputLaws.{IsOfFiles, inputs_refused, is_job, job_apart}
 use Rattle.mill_inputs.proofs.ContentLaws.{step, ok_is, contents_refused, AreOf, contents_there}
 
 -- ---- the first refusal is that of all
@@ -126,9 +127,10 @@ not_both (Ok x) f s first next e = next x e
 not_both {B = B} (Err status) f s first next e = first (ap Err (same_err B status s e))
 
 not_files : (word : ℕ) → IsOfFiles (Usage word) → ⊥
-not_files word (inl front) = absurd front
-not_files word (inr (inl back)) = absurd back
-not_files word (inr (inr drill)) = absurd drill
+not_files word (inl (inl front)) = absurd front
+not_files word (inl (inr back)) = absurd back
+not_files word (inr (inl drill)) = absurd drill
+not_files word (inr (inr outline)) = absurd outline
 
 usage_only : {X Y : Type 0} (r : Result X ℕ) (f : X → Result Y Status) (word : ℕ) → ((x : X) → f x ≡ Err (Usage word) → ⊥) → (usage r >>= f) ≡ Err (Usage word) → r ≡ Err word
 usage_only (Ok x) f word next e = absurd (next x e)
@@ -164,6 +166,7 @@ refused_as_words words word status before now e = by_status status
     by_status (RefusedJob error) r = inl (is r.0 (RefusedJob error) r.2)
     by_status (Gerber role error) r = inl (is r.0 (Gerber role error) r.2)
     by_status (Drill error) r = inl (is r.0 (Drill error) r.2)
+    by_status (Outline error) r = inl (is r.0 (Outline error) r.2)
     by_status (Ngc role fault line) r = inl (is r.0 (Ngc role fault line) r.2)
     by_status (Watch watcher at) r = inl (is r.0 (Watch watcher at) r.2)
     by_status (Limit hit) r = inl (is r.0 (Limit hit) r.2)
@@ -195,6 +198,7 @@ record AreNamed (job : Job) (raw : Inputs) : Type 0 where
   pub front : is_some raw.front ≡ is_some job.front
   pub back : is_some raw.back ≡ is_some job.back
   pub drill : is_some raw.drill ≡ is_some job.drill
+  pub outline : is_some raw.outline ≡ is_some job.outline
 
 inputs_there : (job : Job) (given : Reading) (raw : Inputs) → inputs_of job given ≡ Ok raw → AreNamed job raw
 unfolding inputs_of
@@ -202,11 +206,13 @@ inputs_there job given raw e =
     let f = step (input_if roles.Front job.front given) _ raw e in
     let b = step (input_if roles.Back job.back given) _ raw f.2 in
     let d = step (input_if roles.Drill job.drill given) _ raw b.2 in
-    let is = ok_is (record { front = f.0; back = b.0; drill = d.0 }) raw d.2 in
+    let o = step (input_if roles.Outline job.outline given) _ raw d.2 in
+    let is = ok_is (record { front = f.0; back = b.0; drill = d.0; outline = o.0 }) raw o.2 in
     record {
       front = ap (λ r. is_some r.front) (sym is) ∙ read_there roles.Front job.front f.0 given f.1;
       back = ap (λ r. is_some r.back) (sym is) ∙ read_there roles.Back job.back b.0 given b.1;
       drill = ap (λ r. is_some r.drill) (sym is) ∙ read_there roles.Drill job.drill d.0 given d.1;
+      outline = ap (λ r. is_some r.outline) (sym is) ∙ read_there roles.Outline job.outline o.0 given o.1;
     }
 
 -- what is accepted, of the files that the job names
@@ -228,6 +234,7 @@ whole_as words given x e =
         front = made.front ∙ there.front ∙ ap (λ job. is_some job.front) (sym made.job_is);
         back = made.back ∙ there.back ∙ ap (λ job. is_some job.back) (sym made.job_is);
         drill = made.drill ∙ there.drill ∙ ap (λ job. is_some job.drill) (sym made.job_is);
+        outline = made.outline ∙ there.outline ∙ ap (λ job. is_some job.outline) (sym made.job_is);
       };
       stands = made.stands;
     }
@@ -247,9 +254,10 @@ usage_not_done (Ok x) e = cc
 usage_not_done (Err word) e = cc
 
 files_not_done : IsOfFiles Done → ⊥
-files_not_done (inl front) = front
-files_not_done (inr (inl back)) = back
-files_not_done (inr (inr drill)) = drill
+files_not_done (inl (inl front)) = front
+files_not_done (inl (inr back)) = back
+files_not_done (inr (inl drill)) = drill
+files_not_done (inr (inr outline)) = outline
 
 pub accepted_not_done : (words : List (List ℕ)) (given : Reading) → accepted words given ≡ Err Done → ⊥
 unfolding accepted

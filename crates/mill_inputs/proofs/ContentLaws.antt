@@ -42,9 +42,9 @@ painted_refused : (role : Role) (outcome : Outcome) → IfErr (painted_or_refuse
 painted_refused role (Ok painted) = tt
 painted_refused role (Err refusal) = refused_of_image role refusal.0 refusal.1
 
-side_refused : (role : Role) (bytes : Option (List ℕ)) → IfErr (image_if role bytes) IsOfBytes
-side_refused role None = tt
-side_refused role (Some bytes) = if_err_then IsOfBytes (image role bytes) (λ painted. Ok (Some painted)) (painted_refused role (outcome_of bytes)) (λ painted. tt)
+image_refused : (role : Role) (bytes : Option (List ℕ)) → IfErr (image_if role bytes) IsOfBytes
+image_refused role None = tt
+image_refused role (Some bytes) = if_err_then IsOfBytes (image role bytes) (λ painted. Ok (Some painted)) (painted_refused role (outcome_of bytes)) (λ painted. tt)
 
 -- ---- what a drill file is refused for
 
@@ -70,9 +70,10 @@ holes_refused (Some bytes) = if_err_then IsOfBytes (drilled bytes) (λ file. Ok 
 pub contents_refused : (job : Job) (raw : Inputs) → IfErr (contents_of job raw) IsOfBytes
 unfolding contents_of
 contents_refused job raw =
-    if_err_then IsOfBytes (image_if roles.Front raw.front) _ (side_refused roles.Front raw.front) (λ front.
-    if_err_then IsOfBytes (image_if roles.Back raw.back) _ (side_refused roles.Back raw.back) (λ back.
-    if_err_then IsOfBytes (drilled_if raw.drill) _ (holes_refused raw.drill) (λ drill. tt)))
+    if_err_then IsOfBytes (image_if roles.Front raw.front) _ (image_refused roles.Front raw.front) (λ front.
+    if_err_then IsOfBytes (image_if roles.Back raw.back) _ (image_refused roles.Back raw.back) (λ back.
+    if_err_then IsOfBytes (drilled_if raw.drill) _ (holes_refused raw.drill) (λ drill.
+    if_err_then IsOfBytes (image_if roles.Outline raw.outline) _ (image_refused roles.Outline raw.outline) (λ outline. tt))))
 
 -- ---- what there is
 
@@ -84,9 +85,9 @@ step (Err status) f y e = absurd (cc)
 pub ok_is : {A : Type 0} (a b : A) → ◌≡◌ {A = Result A Status} (Ok a) (Ok b) → a ≡ b
 ok_is a b e = cc
 
-side_there : (role : Role) (bytes : Option (List ℕ)) (painted : Option (List Painted)) → image_if role bytes ≡ Ok painted → is_some painted ≡ is_some bytes
-side_there role None painted e = ap is_some (sym (ok_is None painted e))
-side_there role (Some bytes) painted e = let s = step (image role bytes) (λ painted. Ok (Some painted)) painted e in ap is_some (sym (ok_is (Some s.0) painted s.2))
+image_there : (role : Role) (bytes : Option (List ℕ)) (painted : Option (List Painted)) → image_if role bytes ≡ Ok painted → is_some painted ≡ is_some bytes
+image_there role None painted e = ap is_some (sym (ok_is None painted e))
+image_there role (Some bytes) painted e = let s = step (image role bytes) (λ painted. Ok (Some painted)) painted e in ap is_some (sym (ok_is (Some s.0) painted s.2))
 
 there_mapped : (o : Option (List Painted)) → is_some (option_map mirrored o) ≡ is_some o
 there_mapped None = refl
@@ -110,6 +111,7 @@ pub record AreOf (job : Job) (raw : Inputs) (x : Accepts) : Type 0 where
   pub front : is_some x.front ≡ is_some raw.front
   pub back : is_some x.back ≡ is_some raw.back
   pub drill : is_some x.drill ≡ is_some raw.drill
+  pub outline : is_some x.outline ≡ is_some raw.outline
   pub stands : IsDrillOf x.drill
 
 pub contents_there : (job : Job) (raw : Inputs) (x : Accepts) → contents_of job raw ≡ Ok x → AreOf job raw x
@@ -118,11 +120,13 @@ contents_there job raw x e =
     let f = step (image_if roles.Front raw.front) _ x e in
     let b = step (image_if roles.Back raw.back) _ x f.2 in
     let d = step (drilled_if raw.drill) _ x b.2 in
-    let is = ok_is (record { job = job; front = f.0; back = option_map mirrored b.0; drill = d.0 }) x d.2 in
+    let o = step (image_if roles.Outline raw.outline) _ x d.2 in
+    let is = ok_is (record { job = job; front = f.0; back = option_map mirrored b.0; drill = d.0; outline = o.0 }) x o.2 in
     record {
       job_is = ap (λ x. x.job) (sym is);
-      front = ap (λ x. is_some x.front) (sym is) ∙ side_there roles.Front raw.front f.0 f.1;
-      back = ap (λ x. is_some x.back) (sym is) ∙ there_mapped b.0 ∙ side_there roles.Back raw.back b.0 b.1;
+      front = ap (λ x. is_some x.front) (sym is) ∙ image_there roles.Front raw.front f.0 f.1;
+      back = ap (λ x. is_some x.back) (sym is) ∙ there_mapped b.0 ∙ image_there roles.Back raw.back b.0 b.1;
       drill = ap (λ x. is_some x.drill) (sym is) ∙ holes_there raw.drill d.0 d.1;
+      outline = ap (λ x. is_some x.outline) (sym is) ∙ image_there roles.Outline raw.outline o.0 o.1;
       stands = subst (λ x. IsDrillOf x.drill) is (holes_stand raw.drill d.0 d.1);
     }

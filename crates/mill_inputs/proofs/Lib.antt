@@ -1,5 +1,6 @@
 mod WordLaws
 mod StepLaws
 mod ReadLaws
-mod ContentLaws
+mod InputLaws
+pub mod ContentLaws
 pub mod AcceptLaws

@@ -8,12 +8,13 @@ use Rattle.board_base.specs.Files.{Files}
 use Rattle.board_base.specs.Shelf.{ShelfState, OnlyReads}
 use Rattle.board_base.specs.Binds.{◌>>=◌}
 use Rattle.endings.specs.declared.status.Status.{Status}
-use Rattle.endings.specs.declared.status.Status.TheVariants.{Done, Usage, Job, Gerber, Drill, TooLong, Limit, ReadFault, WriteFault, Ngc, Watch, Memory}
+use Rattle.endings.specs.declared.status.Status.TheVariants.{Done, Usage, Job, Gerber, Drill, Outline, TooLong, Limit, ReadFault, WriteFault, Ngc, Watch, Memory}
 use Rattle.endings.specs.Limits.{most_bytes}
 use Rattle.endings.specs.Lines.{role_name}
 use Rattle.endings.specs.Reads.{Reading, held_in, MayRead, without}
 use Rattle.endings.specs.Answers.{ToldAnd, MakesOf}
 use Rattle.endings.specs.Works.{Refuses}
+use Rattle.endings.proofs.RunLaws.{refuses_weaker}
 
 -- ---- from what one step refuses to what all do
 
@@ -50,6 +51,7 @@ refuses_onto R Q (Job error) a b c keeps carries r = carried a.files b.files (λ
 refuses_onto R Q (Gerber role error) a b c keeps carries r =
     carried a.files b.files (λ g. R g (Gerber role error)) (λ g. Q g (Gerber role error)) keeps.files (λ g may. carries.answer g may (Gerber role error)) r
 refuses_onto R Q (Drill error) a b c keeps carries r = carried a.files b.files (λ g. R g (Drill error)) (λ g. Q g (Drill error)) keeps.files (λ g may. carries.answer g may (Drill error)) r
+refuses_onto R Q (Outline error) a b c keeps carries r = carried a.files b.files (λ g. R g (Outline error)) (λ g. Q g (Outline error)) keeps.files (λ g may. carries.answer g may (Outline error)) r
 refuses_onto R Q (Ngc role fault line) a b c keeps carries r =
     carried a.files b.files (λ g. R g (Ngc role fault line)) (λ g. Q g (Ngc role fault line)) keeps.files (λ g may. carries.answer g may (Ngc role fault line)) r
 refuses_onto R Q (Watch watcher at) a b c keeps carries r = carried a.files b.files (λ g. R g (Watch watcher at)) (λ g. Q g (Watch watcher at)) keeps.files (λ g may. carries.answer g may (Watch watcher at)) r
@@ -139,6 +141,46 @@ reads_on a b c h k = record {
 pub from_earlier : (a b : ShelfState) (P : Reading → Type 0) → OnlyReads a b → (given : Reading) × MayRead b.files given × P given → (given : Reading) × MayRead a.files given × P given
 from_earlier a b P keeps r = (r.0, subst (λ o. MayRead o r.0) keeps.files r.1, r.2)
 
+-- ---- two steps as one
+
+-- what two steps give makes one
+abbrev pub both : {X Y Z : Type 0} → (Reading → Result X Status) → (Reading → Result Y Status) → (X → Y → Z) → Reading → Result Z Status
+both first second make given = first given >>= (λ x. second given >>= (λ y. Ok (make x y)))
+
+first_fails : {X Y Z : Type 0} (first : Reading → Result X Status) (second : Reading → Result Y Status) (make : X → Y → Z) (given : Reading) (s : Status) → first given ≡ Err s → both first second make given ≡ Err s
+first_fails first second make given s e = rw e refl
+
+second_fails : {X Y Z : Type 0} (first : Reading → Result X Status) (second : Reading → Result Y Status) (make : X → Y → Z) (x : X) (given : Reading) (s : Status) → first given ≡ Ok x → second given ≡ Err s
+    → both first second make given ≡ Err s
+second_fails first second make x given s e f = rw (e, f) refl
+
+both_give : {X Y Z : Type 0} (first : Reading → Result X Status) (second : Reading → Result Y Status) (make : X → Y → Z) (x : X) (y : Y) (given : Reading) → first given ≡ Ok x → second given ≡ Ok y
+    → both first second make given ≡ Ok (make x y)
+both_give first second make x y given e f = rw (e, f) refl
+
+-- the first is refused
+pub refuses_first : {X Y Z : Type 0} (first : Reading → Result X Status) (second : Reading → Result Y Status) (make : X → Y → Z) (status : Status) (before now : ShelfState)
+    → Refuses (λ given s. first given ≡ Err s) status before now → Refuses (λ given s. both first second make given ≡ Err s) status before now
+refuses_first first second make status before now r =
+    refuses_weaker (λ given s. first given ≡ Err s) (λ given s. both first second make given ≡ Err s) status before now (first_fails first second make) r
+
+-- the second is refused, behind a first that gave something
+pub refuses_second : {X Y Z : Type 0} (mine : Role → Bool) (first : Reading → Result X Status) (x : X) (second : Reading → Result Y Status) (make : X → Y → Z) → Apart mine first second
+    → (status : Status) (before between now : ShelfState) → OnlyReads before between → (given : Reading) × MayRead before.files given × (first given ≡ Ok x)
+    → Refuses (λ given s. second given ≡ Err s) status between now → Refuses (λ given s. both first second make given ≡ Err s) status before now
+refuses_second mine first x second make apart status before between now keeps given r =
+    refuses_onto (λ given s. second given ≡ Err s) (λ given s. both first second make given ≡ Err s) status before between now keeps
+    (carries_second before.files mine first x second apart given (λ given s. both first second make given ≡ Err s) (second_fails first second make x)) r
+
+-- both give something
+pub gives_both : {X Y Z : Type 0} (mine : Role → Bool) (first : Reading → Result X Status) (x : X) (second : Reading → Result Y Status) (y : Y) (make : X → Y → Z) → Apart mine first second
+    → (before between : ShelfState) → OnlyReads before between → (given : Reading) × MayRead before.files given × (first given ≡ Ok x) → (given : Reading) × MayRead between.files given × (second given ≡ Ok y)
+    → (given : Reading) × MayRead before.files given × (both first second make given ≡ Ok (make x y))
+gives_both mine first x second y make apart before between keeps g h =
+    let later = from_earlier before between (λ given. second given ≡ Ok y) keeps h in
+    let j = joins before.files mine first x second apart g.0 g.1 g.2 later.0 later.1 in
+    (j.given, j.may, both_give first second make x y j.given j.gives (j.same ∙ later.2))
+
 -- ---- steps that read nothing
 
 -- a refusal of what was read
@@ -168,6 +210,7 @@ made_refuses view made (Usage word) before now Q of given may next bad = (given,
 made_refuses view made (Job error) before now Q of given may next bad = (given, may, next (Job error) bad)
 made_refuses view made (Gerber role error) before now Q of given may next bad = (given, may, next (Gerber role error) bad)
 made_refuses view made (Drill error) before now Q of given may next bad = (given, may, next (Drill error) bad)
+made_refuses view made (Outline error) before now Q of given may next bad = (given, may, next (Outline error) bad)
 made_refuses view made (Ngc role fault line) before now Q of given may next bad = (given, may, next (Ngc role fault line) bad)
 made_refuses view made (Watch watcher at) before now Q of given may next bad = (given, may, next (Watch watcher at) bad)
 made_refuses view made (Limit hit) before now Q of given may next bad = (given, may, next (Limit hit) bad)

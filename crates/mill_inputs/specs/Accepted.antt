@@ -30,22 +30,30 @@ use Rattle.mill_inputs.specs.declared.inputs.Inputs.{Inputs as InputsStruct}
 use Rattle.mill_inputs.specs.Words.{words_of}
 
 -- what the words and the files give, where no step refuses: the job, the images of the sides that it names, of which the
--- back is seen from above, as it is milled, and what its drill file drills
+-- back is seen from above, as it is milled, what its drill file drills, and the image of its outline
 pub record Accepts : Type 0 where
   pub job : Job
   pub front : Option (List Painted)
   pub back : Option (List Painted)
   pub drill : Option DrillFile
+  pub outline : Option (List Painted)
 
 -- what the code holds of it
 abbrev pub accepts_of : AcceptedStruct → Accepts
-accepts_of a = record { job = a.job; front = option_map (λ v. v.items) a.front; back = option_map (λ v. v.items) a.back; drill = a.drill }
+accepts_of a = record {
+  job = a.job;
+  front = option_map (λ v. v.items) a.front;
+  back = option_map (λ v. v.items) a.back;
+  drill = a.drill;
+  outline = option_map (λ v. v.items) a.outline;
+}
 
 -- what a file stands for is there exactly where the job names it
 pub record IsNamed (x : Accepts) : Type 0 where
   pub front : is_some x.front ≡ is_some x.job.front
   pub back : is_some x.back ≡ is_some x.job.back
   pub drill : is_some x.drill ≡ is_some x.job.drill
+  pub outline : is_some x.outline ≡ is_some x.job.outline
 
 -- what is drilled stands in some bytes
 abbrev pub IsDrillOf : Option DrillFile → Type 0
@@ -83,17 +91,24 @@ pub record Inputs : Type 0 where
   pub front : Option (List ℕ)
   pub back : Option (List ℕ)
   pub drill : Option (List ℕ)
+  pub outline : Option (List ℕ)
 
 -- what the code holds of them
 abbrev pub inputs_held : InputsStruct → Inputs
-inputs_held raw = record { front = option_map (λ v. v.items) raw.front; back = option_map (λ v. v.items) raw.back; drill = option_map (λ v. v.items) raw.drill }
+inputs_held raw = record {
+  front = option_map (λ v. v.items) raw.front;
+  back = option_map (λ v. v.items) raw.back;
+  drill = option_map (λ v. v.items) raw.drill;
+  outline = option_map (λ v. v.items) raw.outline;
+}
 
 unfoldable pub inputs_of : Job → Reading → Result Inputs Status
 inputs_of job given = do
   front ← input_if roles.Front job.front given
   back ← input_if roles.Back job.back given
   drill ← input_if roles.Drill job.drill given
-  Ok (record { front = front; back = back; drill = drill })
+  outline ← input_if roles.Outline job.outline given
+  Ok (record { front = front; back = back; drill = drill; outline = outline })
 
 -- ---- what they stand for
 
@@ -147,7 +162,8 @@ contents_of job raw = do
   front ← image_if roles.Front raw.front
   back ← image_if roles.Back raw.back
   drill ← drilled_if raw.drill
-  Ok (record { job = job; front = front; back = option_map mirrored back; drill = drill })
+  outline ← image_if roles.Outline raw.outline
+  Ok (record { job = job; front = front; back = option_map mirrored back; drill = drill; outline = outline })
 
 -- ---- all of it
 

@@ -21,13 +21,14 @@ use shape_parts::Painted;
 use std::alloc::Global;
 
 /// What the words and the files give: the job, the images of the sides that it names, the back's as it is seen from
-/// above, and what its drill file drills.
+/// above, what its drill file drills, and the image of its outline.
 #[derive(Drop)]
 pub struct Accepted {
     pub job: Job,
     pub front: Option<Vec<Painted>>,
     pub back: Option<Vec<Painted>>,
     pub drill: Option<DrillFile>,
+    pub outline: Option<Vec<Painted>>,
 }
 
 // What a word outside the grammar is to the command. A number past 4,294,967,295 is told by no status.

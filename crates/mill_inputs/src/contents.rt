@@ -36,7 +36,7 @@ fn read_image(alloc: Global, role: Role, bytes: &[u8]) -> Result<Vec<Painted>, S
 }
 
 // The same, where there is a file.
-fn read_side(
+fn read_image_if(
     alloc: Global,
     role: Role,
     bytes: &Option<Vec<u8>>,
@@ -95,22 +95,25 @@ fn read_holes(alloc: Global, bytes: &Option<Vec<u8>>) -> Result<Option<DrillFile
     }
 }
 
-/// What the files stand for: the front's image, then the back's, which is mirrored, then what the drill file drills.
+/// What the files stand for: the front's image, then the back's, which is mirrored, then what the drill file drills, then
+/// the outline's image.
 #[tactic(auto, unfolding(crate::specs::Accepted::contents_of))]
 pub fn read_contents(alloc: Global, job: Job, raw: &Inputs) -> Result<Accepted, Status>
     ensures made { MakesOf accepts_of (contents_of job (inputs_held raw.now)) result }
     ensures job { IfOk result (λ x. x.job ≡ job) }
     ensures drilled { IfOk result (λ x. IfSome x.drill IsDrilled) }
 {
-    let front = read_side(alloc, Role::Front, &raw.front)?;
-    let back = read_side(alloc, Role::Back, &raw.back)?;
+    let front = read_image_if(alloc, Role::Front, &raw.front)?;
+    let back = read_image_if(alloc, Role::Back, &raw.back)?;
     let drill = read_holes(alloc, &raw.drill)?;
+    let outline = read_image_if(alloc, Role::Outline, &raw.outline)?;
     match mirrored_image(alloc, &back) {
         Ok(back) => Ok(Accepted {
             job,
             front,
             back,
             drill,
+            outline,
         }),
         Err(_) => Err(Status::Memory),
     }

@@ -15,6 +15,7 @@ pub struct Inputs {
     pub front: Option<Vec<u8>>,
     pub back: Option<Vec<u8>>,
     pub drill: Option<Vec<u8>>,
+    pub outline: Option<Vec<u8>>,
 }
 
 /// The bytes of the job's file, or none where there is no file.
@@ -48,7 +49,7 @@ fn read_named<S: Shelf>(
     }
 }
 
-/// The bytes of the files that the job names, the front's before the back's, and the drill file's last.
+/// The bytes of the files that the job names: the front's, the back's, the drill file's, and the outline's.
 pub fn read_inputs<S: Shelf>(alloc: Global, shelf: &mut S, job: &Job) -> Result<Inputs, Status>
     ensures keeps { OnlyReads (S.state shelf.old) (S.state shelf.new) }
     ensures gives { Gives inputs_held (S.state shelf.old) (S.state shelf.new) (inputs_of job.now) result }
@@ -56,5 +57,11 @@ pub fn read_inputs<S: Shelf>(alloc: Global, shelf: &mut S, job: &Job) -> Result<
     let front = read_named(alloc, shelf, Role::Front, &job.front)?;
     let back = read_named(alloc, shelf, Role::Back, &job.back)?;
     let drill = read_named(alloc, shelf, Role::Drill, &job.drill)?;
-    Ok(Inputs { front, back, drill })
+    let outline = read_named(alloc, shelf, Role::Outline, &job.outline)?;
+    Ok(Inputs {
+        front,
+        back,
+        drill,
+        outline,
+    })
 }

@@ -1,14 +1,9 @@
 -- What holds of what was accepted.
 use Rattle.std.proofs.Common.{◌≡◌, ℕ, List, Option, Some, None, Result, Ok, Err, refl, sym, ap, subst}
 use Rattle.std.specs.Prelude.{IfSome}
-use Rattle.std.specs.Option.{option_map}
 use Rattle.board_base.specs.Binds.{◌>>=◌}
-use Rattle.shape_parts.specs.declared.shape.Painted.{Painted}
-use Rattle.board_base.specs.declared.places.Role.TheVariants as roles
 use Rattle.excellon.specs.Fits.{IsDrilled}
 use Rattle.excellon.specs.declared.file.DrillFile.{DrillFile}
-use Rattle.excellon.specs.declared.file.DrillError.{DrillError}
-use Rattle.excellon.specs.Drill.{drill_of}
 use Rattle.job_file.specs.declared.job.Job.{Job}
 use Rattle.job_file.specs.declared.error.JobKind.{JobKind}
 use Rattle.job_file.specs.declared.error.JobError.{JobError}
@@ -28,9 +23,9 @@ use Rattle.endings.specs.declared.status.Status.{Status}
 use Rattle.endings.specs.Answers.{usage}
 use Rattle.endings.specs.Reads.{Reading}
 use Rattle.mill_inputs.specs.Words.{words_of}
-use Rattle.mill_inputs.specs.Accepted.{Accepts, IsDrillOf, Inputs, mirrored, job_bytes, job_or_refused, job_in, inputs_of, image_if, drilled_or_refused, drilled, drilled_if, accepted, contents_of}
+use Rattle.mill_inputs.specs.Accepted.{Accepts, IsDrillOf, job_bytes, job_or_refused, job_in, inputs_of, accepted, contents_of}
+use Rattle.mill_inputs.proofs.ContentLaws.{AreOf, contents_there}
 use Rattle.mill_outputs.proofs.DrilledLaws.{drilled_law}
-use Rattle.mill_outputs.proofs.PlanLaws.{ok_is}
 
 -- ---- the job
 
@@ -56,16 +51,6 @@ job_in_ok (Err error) job e = absurd cc
 
 -- ---- what is drilled
 
-drilled_ok : (r : Result DrillFile DrillError) (file : DrillFile) → drilled_or_refused r ≡ Ok file → r ≡ Ok file
-drilled_ok (Ok f) file e = let same : f ≡ file = cc in ap Ok same
-drilled_ok (Err error) file e = absurd cc
-
-drill_stands : (bytes : Option (List ℕ)) (drill : Option DrillFile) → drilled_if bytes ≡ Ok drill → IsDrillOf drill
-drill_stands None drill e = subst IsDrillOf (ok_is None drill e) tt
-drill_stands (Some bytes) drill e =
-    let file = step (drilled bytes) (λ file. Ok (Some file)) drill e in
-    subst IsDrillOf (ok_is (Some file.0) drill file.2) (bytes, drilled_ok (drill_of bytes) file.0 file.1)
-
 all_drilled : (drill : Option DrillFile) → IsDrillOf drill → IfSome drill IsDrilled
 all_drilled None stands = tt
 all_drilled (Some file) stands = drilled_law stands.0 file stands.1
@@ -79,25 +64,6 @@ pub record IsAccepted (x : Accepts) : Type 0 where
   pub drilled : IfSome x.drill IsDrilled
   pub stands : IsDrillOf x.drill
 
-job_is : (one other : Accepts) → one ≡ other → one.job ≡ other.job
-job_is one other same = ap (λ (x : Accepts). x.job) same
-
-drill_is : (one other : Accepts) → one ≡ other → one.drill ≡ other.drill
-drill_is one other same = ap (λ (x : Accepts). x.drill) same
-
--- the job and what is drilled, as they were read
-contents_stand : (job : Job) (raw : Inputs) (x : Accepts) → contents_of job raw ≡ Ok x → (job ≡ x.job) × IsDrillOf x.drill
-unfolding contents_of
-contents_stand job raw x e =
-    let made : Option (List Painted) → Option (List Painted) → Option DrillFile → Accepts = λ front back drill. record { job = job; front = front; back = option_map mirrored back; drill = drill } in
-    let front = step (image_if roles.Front raw.front) (λ front. image_if roles.Back raw.back >>= (λ back. drilled_if raw.drill >>= (λ drill. Ok (made front back drill)))) x e in
-    let back = step (image_if roles.Back raw.back) (λ back. drilled_if raw.drill >>= (λ drill. Ok (made front.0 back drill))) x front.2 in
-    let drill = step (drilled_if raw.drill) (λ drill. Ok (made front.0 back.0 drill)) x back.2 in
-    let same = ok_is (made front.0 back.0 drill.0) x drill.2 in
-    let its_job : job ≡ x.job = job_is (made front.0 back.0 drill.0) x same in
-    let its_drill : drill.0 ≡ x.drill = drill_is (made front.0 back.0 drill.0) x same in
-    (its_job, subst IsDrillOf its_drill (drill_stands raw.drill drill.0 drill.1))
-
 pub accepted_stands : (words : List (List ℕ)) (given : Reading) (x : Accepts) → accepted words given ≡ Ok x → IsAccepted x
 unfolding accepted
 accepted_stands words given x e =
@@ -107,11 +73,12 @@ accepted_stands words given x e =
     let text = step (job_bytes place.0 given) behind_text x place.2 in
     let job = step (job_in text.0 words) behind_job x text.2 in
     let raw = step (inputs_of job.0 given) (λ raw. contents_of job.0 raw) x job.2 in
-    let contents = contents_stand job.0 raw.0 x raw.2 in
+    let contents : AreOf job.0 raw.0 x = contents_there job.0 raw.0 x raw.2 in
+    let its_job : job.0 ≡ x.job = sym contents.job_is in
     let good = job_stands text.0 words job.0 (job_in_ok _ job.0 job.1) in
     record {
-      ranges = subst IsInRanges contents.0 good.0;
-      together = subst (GoTogether None) contents.0 good.1;
-      drilled = all_drilled x.drill contents.1;
-      stands = contents.1;
+      ranges = subst IsInRanges its_job good.0;
+      together = subst (GoTogether None) its_job good.1;
+      drilled = all_drilled x.drill contents.stands;
+      stands = contents.stands;
     }

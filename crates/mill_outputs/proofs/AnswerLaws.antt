@@ -8,7 +8,7 @@ use Rattle.board_base.specs.Sink.{SinkState}
 use Rattle.shape_parts.specs.declared.shape.Painted.{Painted}
 use Rattle.mill_plan.specs.declared.limits.LimitHit.{LimitHit}
 use Rattle.endings.specs.declared.status.Status.{Status}
-use Rattle.endings.specs.declared.status.Status.TheVariants.{Done, Usage, Job, Gerber, Drill, TooLong, Limit, ReadFault, WriteFault, Ngc, Watch, Memory}
+use Rattle.endings.specs.declared.status.Status.TheVariants.{Done, Usage, Job, Gerber, Drill, Outline, TooLong, Limit, ReadFault, WriteFault, Ngc, Watch, Memory}
 use Rattle.endings.specs.Answers.{ToldAnd}
 use Rattle.endings.specs.Reads.{Reading, held_in}
 use Rattle.endings.specs.Ending.{Ending, refusal, Reaches}
@@ -77,6 +77,7 @@ complete_so words files result x before now k l told cause good within no_read n
     by_result (Job error) cause = inl (sym (told_end (Job error) cause))
     by_result (Gerber role error) cause = inl (sym (told_end (Gerber role error) cause))
     by_result (Drill error) cause = inl (sym (told_end (Drill error) cause))
+    by_result (Outline error) cause = inl (sym (told_end (Outline error) cause))
     by_result (Ngc role fault line) cause = inl (sym (told_end (Ngc role fault line) cause))
     by_result (Watch watcher at) cause = inl (sym (told_end (Watch watcher at) cause))
     by_result (Limit hit) cause = inl (sym (told_end (Limit hit) cause))

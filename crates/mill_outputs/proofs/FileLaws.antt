@@ -5,12 +5,10 @@ use Rattle.std.proofs.lemmas.List.{append_cancel_left}
 use Rattle.std.proofs.lemmas.Slice.Eq.{bytes_eq-Decides}
 use Rattle.board_base.specs.declared.places.Role.{Role}
 use Rattle.board_base.specs.declared.places.Role.TheVariants as roles
-use Rattle.drill_plan.specs.declared.plans.ToolPlan.{ToolPlan}
 use Rattle.job_file.specs.declared.job.Job.{Job}
-use Rattle.mill_plan.specs.declared.isolation.Isolation.{Isolation}
 use Rattle.endings.specs.Outputs.{Output, Writes}
 use Rattle.mill_outputs.specs.declared.plans.Plans.{Plans}
-use Rattle.mill_outputs.specs.Mill.{named, program_file, drill_file, report_file, files_of}
+use Rattle.mill_outputs.specs.Mill.{named, file_if, program_file, drill_file, outline_file, report_file, files_of}
 use Rattle.mill_outputs.proofs.PlanLaws.{AreAlike}
 use Rattle.mill_outputs.proofs.StoredLaws.{Lacks, AreApart}
 
@@ -20,7 +18,8 @@ use Rattle.mill_outputs.proofs.StoredLaws.{Lacks, AreApart}
 abbrev pub files_in_row : Job → Plans → List Output
 files_in_row job plans =
     program_file job.basename roles.Front (codes "front.ngc") plans.front
-    ++ (program_file job.basename roles.Back (codes "back.ngc") plans.back ++ (drill_file job plans.drill ++ report_file job.basename plans ∷ []))
+    ++ (program_file job.basename roles.Back (codes "back.ngc") plans.back
+    ++ (drill_file job plans.drill ++ (outline_file job.basename plans.outline ++ report_file job.basename plans ∷ [])))
 
 pub files_are : (job : Job) (plans : Plans) → files_of job plans ≡ files_in_row job plans
 unfolding files_of
@@ -28,8 +27,9 @@ files_are job plans =
     let front = program_file job.basename roles.Front (codes "front.ngc") plans.front in
     let back = program_file job.basename roles.Back (codes "back.ngc") plans.back in
     let drill = drill_file job plans.drill in
+    let outline = outline_file job.basename plans.outline in
     let report = report_file job.basename plans ∷ [] in
-    append_assoc (front ++ back) drill report ∙ append_assoc front back (drill ++ report)
+    append_assoc ((front ++ back) ++ drill) outline report ∙ append_assoc (front ++ back) drill (outline ++ report) ∙ append_assoc front back (drill ++ (outline ++ report))
 
 -- ---- names
 
@@ -51,37 +51,36 @@ named_apart base one other apart = is_not (named base one) (named base other) _ 
     true_not_false : bytes_eq one other ≡ true → ⊥
     true_not_false e = flips _ e apart
 
--- a name that the program of a side hasn't, where what comes behind lacks it too
-lacks_program : (base : Option (List ℕ)) (name other : List ℕ) (role : Role) (plan : Option Isolation) (rest : List Output) → bytes_eq name other ≡ false → Lacks (named base name) rest → Lacks (named base name) (program_file base role other plan ++ rest)
-lacks_program base name other role None rest apart lacks = lacks
-lacks_program base name other role (Some plan) rest apart lacks = (named_apart base name other apart, lacks)
+-- a name that a file hasn't, where what comes behind lacks it too
+lacks_file : {A : Type 0} (base : Option (List ℕ)) (name other : List ℕ) (role : Role) (bytes : A → List ℕ) (plan : Option A) (rest : List Output) → bytes_eq name other ≡ false → Lacks (named base name) rest
+    → Lacks (named base name) (file_if role (named base other) bytes plan ++ rest)
+lacks_file base name other role bytes None rest apart lacks = lacks
+lacks_file base name other role bytes (Some plan) rest apart lacks = (named_apart base name other apart, lacks)
 
--- the same of the program of the holes
-lacks_drill : (job : Job) (name : List ℕ) (plan : Option (List ToolPlan)) (rest : List Output) → bytes_eq name (codes "drill.ngc") ≡ false → Lacks (named job.basename name) rest → Lacks (named job.basename name) (drill_file job plan ++ rest)
-lacks_drill job name None rest apart lacks = lacks
-lacks_drill job name (Some plan) rest apart lacks = (named_apart job.basename name (codes "drill.ngc") apart, lacks)
-
--- the program of a side before files that haven't its name
-apart_program : (base : Option (List ℕ)) (role : Role) (name : List ℕ) (plan : Option Isolation) (rest : List Output) → Lacks (named base name) rest → AreApart rest → AreApart (program_file base role name plan ++ rest)
-apart_program base role name None rest lacks apart = apart
-apart_program base role name (Some plan) rest lacks apart = (lacks, apart)
-
--- the same of the program of the holes
-apart_drill : (job : Job) (plan : Option (List ToolPlan)) (rest : List Output) → Lacks (named job.basename (codes "drill.ngc")) rest → AreApart rest → AreApart (drill_file job plan ++ rest)
-apart_drill job None rest lacks apart = apart
-apart_drill job (Some plan) rest lacks apart = (lacks, apart)
+-- a file before others that haven't its name
+apart_file : {A : Type 0} (name : List ℕ) (role : Role) (bytes : A → List ℕ) (plan : Option A) (rest : List Output) → Lacks name rest → AreApart rest → AreApart (file_if role name bytes plan ++ rest)
+apart_file name role bytes None rest lacks apart = apart
+apart_file name role bytes (Some plan) rest lacks apart = (lacks, apart)
 
 row_apart : (job : Job) (plans : Plans) → AreApart (files_in_row job plans)
 row_apart job plans =
     let base = job.basename in
     let report = report_file base plans ∷ [] in
-    let holes = drill_file job plans.drill ++ report in
-    let front_names : Lacks (named base (codes "front.ngc")) holes = lacks_drill job (codes "front.ngc") plans.drill report refl (named_apart base (codes "front.ngc") (codes "report.txt") refl, tt) in
-    let back_names : Lacks (named base (codes "back.ngc")) holes = lacks_drill job (codes "back.ngc") plans.drill report refl (named_apart base (codes "back.ngc") (codes "report.txt") refl, tt) in
-    apart_program base roles.Front (codes "front.ngc") plans.front (program_file base roles.Back (codes "back.ngc") plans.back ++ holes)
-    (lacks_program base (codes "front.ngc") (codes "back.ngc") roles.Back plans.back holes refl front_names)
-    (apart_program base roles.Back (codes "back.ngc") plans.back holes back_names
-    (apart_drill job plans.drill report (named_apart base (codes "drill.ngc") (codes "report.txt") refl, tt) (tt, tt)))
+    let outline = outline_file base plans.outline ++ report in
+    let holes = drill_file job plans.drill ++ outline in
+    apart_file (named base (codes "front.ngc")) roles.Front _ plans.front (program_file base roles.Back (codes "back.ngc") plans.back ++ holes)
+    (lacks_file base (codes "front.ngc") (codes "back.ngc") roles.Back _ plans.back holes refl (behind_sides (codes "front.ngc") refl refl refl))
+    (apart_file (named base (codes "back.ngc")) roles.Back _ plans.back holes (behind_sides (codes "back.ngc") refl refl refl)
+    (apart_file (named base (codes "drill.ngc")) roles.Drill _ plans.drill outline (behind_holes (codes "drill.ngc") refl refl)
+    (apart_file (named base (codes "outline.ngc")) roles.Outline _ plans.outline report (named_apart base (codes "outline.ngc") (codes "report.txt") refl, tt) (tt, tt))))
+  where
+    behind_holes : (name : List ℕ) → bytes_eq name (codes "outline.ngc") ≡ false → bytes_eq name (codes "report.txt") ≡ false
+        → Lacks (named job.basename name) (outline_file job.basename plans.outline ++ report_file job.basename plans ∷ [])
+    behind_holes name outline report = lacks_file job.basename name (codes "outline.ngc") roles.Outline _ plans.outline (report_file job.basename plans ∷ []) outline (named_apart job.basename name (codes "report.txt") report, tt)
+
+    behind_sides : (name : List ℕ) → bytes_eq name (codes "drill.ngc") ≡ false → bytes_eq name (codes "outline.ngc") ≡ false → bytes_eq name (codes "report.txt") ≡ false
+        → Lacks (named job.basename name) (drill_file job plans.drill ++ (outline_file job.basename plans.outline ++ report_file job.basename plans ∷ []))
+    behind_sides name drill outline report = lacks_file job.basename name (codes "drill.ngc") roles.Drill _ plans.drill (outline_file job.basename plans.outline ++ report_file job.basename plans ∷ []) drill (behind_holes name outline report)
 
 -- no two files have one name
 pub files_apart : (job : Job) (plans : Plans) → AreApart (files_of job plans)
@@ -89,55 +88,43 @@ files_apart job plans = subst AreApart (sym (files_are job plans)) (row_apart jo
 
 -- ---- roles
 
--- the program of a side has the same role in other plans
-program_writes : (role own : Role) (base : Option (List ℕ)) (name : List ℕ) (one other : Option Isolation) (rest more : List Output) → AreAlike one other → (Writes role rest → Writes role more)
-    → Writes role (program_file base own name one ++ rest) → Writes role (program_file base own name other ++ more)
-program_writes role own base name None None rest more alike later w = later w
-program_writes role own base name (Some one) (Some other) rest more alike later (inl here) = inl here
-program_writes role own base name (Some one) (Some other) rest more alike later (inr w) = inr (later w)
-program_writes role own base name None (Some other) rest more alike later w = absurd alike
-program_writes role own base name (Some one) None rest more alike later w = absurd alike
+-- a file has the same role in other plans
+file_writes : {A : Type 0} (role own : Role) (name : List ℕ) (bytes : A → List ℕ) (one other : Option A) (rest more : List Output) → AreAlike one other → (Writes role rest → Writes role more)
+    → Writes role (file_if own name bytes one ++ rest) → Writes role (file_if own name bytes other ++ more)
+file_writes role own name bytes None None rest more alike later w = later w
+file_writes role own name bytes (Some one) (Some other) rest more alike later (inl here) = inl here
+file_writes role own name bytes (Some one) (Some other) rest more alike later (inr w) = inr (later w)
+file_writes role own name bytes None (Some other) rest more alike later w = absurd alike
+file_writes role own name bytes (Some one) None rest more alike later w = absurd alike
 
--- so has that of the holes
-drill_writes : (role : Role) (job : Job) (one other : Option (List ToolPlan)) (rest more : List Output) → AreAlike one other → (Writes role rest → Writes role more)
-    → Writes role (drill_file job one ++ rest) → Writes role (drill_file job other ++ more)
-drill_writes role job None None rest more alike later w = later w
-drill_writes role job (Some one) (Some other) rest more alike later (inl here) = inl here
-drill_writes role job (Some one) (Some other) rest more alike later (inr w) = inr (later w)
-drill_writes role job None (Some other) rest more alike later w = absurd alike
-drill_writes role job (Some one) None rest more alike later w = absurd alike
+-- all files are there in both plans, or in neither
+abbrev pub HaveAlike : Plans → Plans → Type 0
+HaveAlike one other = AreAlike one.front other.front × AreAlike one.back other.back × AreAlike one.drill other.drill × AreAlike one.outline other.outline
 
 -- other plans for the same have files of the same roles
-pub same_writes : (role : Role) (job : Job) (one other : Plans) → AreAlike one.front other.front → AreAlike one.back other.back → AreAlike one.drill other.drill → Writes role (files_of job one) → Writes role (files_of job other)
-same_writes role job one other front back drill w = subst (Writes role) (sym (files_are job other)) (in_row (subst (Writes role) (files_are job one) w))
+pub same_writes : (role : Role) (job : Job) (one other : Plans) → HaveAlike one other → Writes role (files_of job one) → Writes role (files_of job other)
+same_writes role job one other alike w = subst (Writes role) (sym (files_are job other)) (in_row (subst (Writes role) (files_are job one) w))
   where
     in_row : Writes role (files_in_row job one) → Writes role (files_in_row job other)
     in_row =
-        program_writes role roles.Front job.basename (codes "front.ngc") one.front other.front _ _ front
-        (program_writes role roles.Back job.basename (codes "back.ngc") one.back other.back _ _ back
-        (drill_writes role job one.drill other.drill (report_file job.basename one ∷ []) (report_file job.basename other ∷ []) drill (λ w. w)))
+        file_writes role roles.Front _ _ one.front other.front _ _ alike.0
+        (file_writes role roles.Back _ _ one.back other.back _ _ alike.1
+        (file_writes role roles.Drill _ _ one.drill other.drill _ _ alike.2
+        (file_writes role roles.Outline _ _ one.outline other.outline (report_file job.basename one ∷ []) (report_file job.basename other ∷ []) alike.3 (λ w. w))))
 
--- the program of a side hasn't the role of the lines
-program_not_lines : (base : Option (List ℕ)) (own : Role) (name : List ℕ) (plan : Option Isolation) (rest : List Output) → (own ≡ roles.Lines → ⊥) → (Writes roles.Lines rest → ⊥) → Writes roles.Lines (program_file base own name plan ++ rest) → ⊥
-program_not_lines base own name None rest other none w = none w
-program_not_lines base own name (Some plan) rest other none (inl here) = other here
-program_not_lines base own name (Some plan) rest other none (inr later) = none later
-
--- nor has that of the holes
-drill_not_lines : (job : Job) (plan : Option (List ToolPlan)) (rest : List Output) → (Writes roles.Lines rest → ⊥) → Writes roles.Lines (drill_file job plan ++ rest) → ⊥
-drill_not_lines job None rest none w = none w
-drill_not_lines job (Some plan) rest none (inl here) = not_drill here
-  where
-    not_drill : roles.Drill ≡ roles.Lines → ⊥
-    not_drill e = cc
-drill_not_lines job (Some plan) rest none (inr later) = none later
+-- a file hasn't the role of the lines
+file_not_lines : {A : Type 0} (own : Role) (name : List ℕ) (bytes : A → List ℕ) (plan : Option A) (rest : List Output) → (own ≡ roles.Lines → ⊥) → (Writes roles.Lines rest → ⊥) → Writes roles.Lines (file_if own name bytes plan ++ rest) → ⊥
+file_not_lines own name bytes None rest other none w = none w
+file_not_lines own name bytes (Some plan) rest other none (inl here) = other here
+file_not_lines own name bytes (Some plan) rest other none (inr later) = none later
 
 -- no file has the role of the lines
 pub plans_not_lines : (job : Job) (plans : Plans) → Writes roles.Lines (files_of job plans) → ⊥
 plans_not_lines job plans w =
-    program_not_lines job.basename roles.Front (codes "front.ngc") plans.front _ not_front
-    (program_not_lines job.basename roles.Back (codes "back.ngc") plans.back _ not_back
-    (drill_not_lines job plans.drill (report_file job.basename plans ∷ []) last))
+    file_not_lines roles.Front _ _ plans.front _ not_front
+    (file_not_lines roles.Back _ _ plans.back _ not_back
+    (file_not_lines roles.Drill _ _ plans.drill _ not_drill
+    (file_not_lines roles.Outline _ _ plans.outline (report_file job.basename plans ∷ []) not_outline last)))
     (subst (Writes roles.Lines) (files_are job plans) w)
   where
     not_front : roles.Front ≡ roles.Lines → ⊥
@@ -145,6 +132,12 @@ plans_not_lines job plans w =
 
     not_back : roles.Back ≡ roles.Lines → ⊥
     not_back e = cc
+
+    not_drill : roles.Drill ≡ roles.Lines → ⊥
+    not_drill e = cc
+
+    not_outline : roles.Outline ≡ roles.Lines → ⊥
+    not_outline e = cc
 
     not_report : roles.Report ≡ roles.Lines → ⊥
     not_report e = cc

@@ -13,6 +13,8 @@ use Rattle.ngc_writer.specs.Spelled.{SpellingLaw}
 use Rattle.job_file.specs.declared.job.Job.{Job}
 use Rattle.mill_plan.specs.declared.isolation.Isolation.{Isolation}
 use Rattle.mill_plan.specs.Isolated.{IsIsolationOf}
+use Rattle.outline_plan.specs.declared.plan.OutlineCut.{OutlineCut}
+use Rattle.outline_plan.specs.CutOut.{CutsOut}
 use Rattle.endings.specs.declared.status.Status.TheVariants.{Done}
 use Rattle.endings.specs.Answers.{IfTold}
 use Rattle.endings.specs.Outputs.{all_stored}
@@ -22,38 +24,39 @@ use Rattle.endings.specs.Run.{Leaves}
 use Rattle.mill_inputs.specs.Accepted.{accepted}
 use Rattle.mill_outputs.specs.Planned.{ArePlanned}
 use Rattle.mill_outputs.specs.Mill.{files_of, Milled, Ends}
-use Rattle.mill_outputs.specs.Headline.{Wrote, Side, side_of, OfSides, drilling_of, OfHoles, DrillsHoles}
+use Rattle.mill_outputs.specs.Headline.{Wrote, pair_if, Side, milled_side, OfSides, drilling, OfHoles, DrillsHoles, CutBoard, cut_board, OfOutline}
 use Rattle.mill_outputs.specs.Done.{AfterDone}
-use Rattle.mill_outputs.proofs.PlanLaws.{Isolates, Drills, planned_isolate, planned_drill}
+use Rattle.mill_outputs.proofs.PlanLaws.{IsFor, Drills, planned_isolate, planned_drill, planned_outline}
 use Rattle.mill_outputs.proofs.MillLaws.{of_done}
-use Rattle.mill_outputs.proofs.SideLaws.{milled_side}
 use Rattle.mill_outputs.proofs.HoleLaws.{AreWithin, IsJobOfHoles, planned_within, drills_holes}
 use Rattle.mill_outputs.proofs.AcceptedLaws.{IsAccepted, accepted_stands}
 use Rattle.mill_outputs.proofs.StoredLaws.{all_in, stored_in, each_held}
 use Rattle.mill_outputs.proofs.FileLaws.{files_apart}
 
+-- ---- what was there and what was planned for it
+
+-- what holds of each plan holds of what it makes
+of_pair : {A B C : Type 0} (R : A → B → Type 0) (P : C → Type 0) (make : A → B → C) → ((given : A) (plan : B) → R given plan → P (make given plan)) → (given : Option A) (plan : Option B) → IsFor R given plan → AllByRecursion P (pair_if make given plan)
+of_pair R P make each None None h = tt
+of_pair R P make each None (Some plan) h = tt
+of_pair R P make each (Some given) None h = tt
+of_pair R P make each (Some given) (Some plan) h = (each given plan h, tt)
+
 -- ---- each side
 
--- what holds of each isolation holds of the side that it is of
-of_side : (P : Side → Type 0) (job : Job) (image : Option (List Painted)) (plan : Option Isolation) → ((image : List Painted) (plan : Isolation) → IsIsolationOf job image plan → P (milled_side job image plan))
-    → Isolates job image plan → AllByRecursion P (side_of job image plan)
-of_side P job None None each h = tt
-of_side P job None (Some plan) each h = tt
-of_side P job (Some image) None each h = tt
-of_side P job (Some image) (Some plan) each h = (each image plan h, tt)
-
--- and of each side that was milled
+-- what holds of each isolation holds of each side that was milled
 of_sides : (P : Side → Type 0) (m : Milled) → ((job : Job) (image : List Painted) (plan : Isolation) → IsIsolationOf job image plan → P (milled_side job image plan)) → ArePlanned m.accepts (Ok m.plans) → OfSides P m
 of_sides P m each planned =
     let isolate = planned_isolate m.accepts m.plans planned in
     let job = (m.accepts).job in
-    All-append P (side_of job (m.accepts).front (m.plans).front) (side_of job (m.accepts).back (m.plans).back)
-    (All-from_recursion P _ (of_side P job (m.accepts).front (m.plans).front (each job) isolate.0))
-    (All-from_recursion P _ (of_side P job (m.accepts).back (m.plans).back (each job) isolate.1))
+    let of_side = of_pair (IsIsolationOf job) P (milled_side job) (each job) in
+    All-append P (pair_if (milled_side job) (m.accepts).front (m.plans).front) (pair_if (milled_side job) (m.accepts).back (m.plans).back)
+    (All-from_recursion P _ (of_side (m.accepts).front (m.plans).front isolate.0))
+    (All-from_recursion P _ (of_side (m.accepts).back (m.plans).back isolate.1))
 
 -- ---- the holes
 
-of_drilling : SpellingLaw → HolesLaw → (job : Job) → IsJobOfHoles job → (file : Option DrillFile) (plan : Option (List ToolPlan)) → Drills job file plan → AreWithin plan → AllByRecursion DrillsHoles (drilling_of job file plan)
+of_drilling : SpellingLaw → HolesLaw → (job : Job) → IsJobOfHoles job → (file : Option DrillFile) (plan : Option (List ToolPlan)) → Drills job file plan → AreWithin plan → AllByRecursion DrillsHoles (pair_if (drilling job) file plan)
 of_drilling spelled holes job ok None None d within = tt
 of_drilling spelled holes job ok None (Some plan) d within = tt
 of_drilling spelled holes job ok (Some file) None d within = tt
@@ -64,6 +67,13 @@ of_holes spelled holes few limits m ok planned =
     All-from_recursion DrillsHoles _
     (of_drilling spelled holes (m.accepts).job (record { ranges = ok.ranges; change = (ok.together).change }) (m.accepts).drill (m.plans).drill (planned_drill m.accepts m.plans planned)
     (planned_within few limits m.accepts m.plans ok.drilled ok.stands planned))
+
+-- ---- the outline
+
+of_outline : (P : CutBoard → Type 0) (m : Milled) → ((job : Job) (image : List Painted) (plan : OutlineCut) → CutsOut job image plan → P (cut_board job image plan)) → ArePlanned m.accepts (Ok m.plans) → OfOutline P m
+of_outline P m each planned =
+    let job = (m.accepts).job in
+    All-from_recursion P _ (of_pair (CutsOut job) P (cut_board job) (each job) (m.accepts).outline (m.plans).outline (planned_outline m.accepts m.plans planned))
 
 -- ---- what was written
 
@@ -101,3 +111,7 @@ sides_after_done P each = after_done (OfSides P) (λ m ok. of_sides P m each)
 -- the same of the holes
 pub holes_after_done : SpellingLaw → HolesLaw → FewDiametersLaw → LimitsLaw → AfterDone (OfHoles DrillsHoles)
 holes_after_done spelled holes few limits = after_done (OfHoles DrillsHoles) (of_holes spelled holes few limits)
+
+-- the same of the outline
+pub outline_after_done : (P : CutBoard → Type 0) → ((job : Job) (image : List Painted) (plan : OutlineCut) → CutsOut job image plan → P (cut_board job image plan)) → AfterDone (OfOutline P)
+outline_after_done P each = after_done (OfOutline P) (λ m ok. of_outline P m each)

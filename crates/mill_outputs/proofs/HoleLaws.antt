@@ -11,14 +11,12 @@ use Rattle.drill_program.specs.Program.{program_of}
 use Rattle.drill_program.specs.Holes.{HolesAreDrilled, HolesLaw}
 use Rattle.drill_program.proofs.ProgramLaws.{program_in}
 use Rattle.ngc_writer.specs.Spelled.{SpellingLaw}
-use Rattle.rs274_sim.specs.Spelling.{text_of}
-use Rattle.mill_program.specs.Lines.{lines_of}
 use Rattle.job_file.specs.declared.job.Job.{Job}
 use Rattle.job_file.specs.Ranges.{IsInRanges}
 use Rattle.mill_inputs.specs.Accepted.{Accepts, IsDrillOf}
 use Rattle.mill_outputs.specs.declared.plans.Plans.{Plans}
 use Rattle.mill_outputs.specs.Planned.{ArePlanned}
-use Rattle.mill_outputs.specs.Headline.{DrillsHoles}
+use Rattle.mill_outputs.specs.Headline.{drilling, DrillsHoles}
 use Rattle.mill_outputs.proofs.PlanLaws.{Drills, planned_drill}
 use Rattle.mill_outputs.proofs.SideLaws.{side_runs}
 
@@ -43,6 +41,6 @@ planned_within few limits x plans ok stands planned = drill_within few limits x.
 
 -- what the run of the lines drills, the run of their text does
 pub drills_holes : SpellingLaw → HolesLaw → (job : Job) → IsJobOfHoles job → (file : DrillFile) (plan : List ToolPlan) → IsDrillPlan file job.drills_available plan → IsWithinLimits plan
-    → DrillsHoles (record { job = job; file = file; plan = plan; program = text_of (lines_of (program_of job plan)) })
+    → DrillsHoles (drilling job file plan)
 drills_holes spelled holes job ok file plan d within =
     side_runs spelled (program_of job plan) (HolesAreDrilled job file plan) (program_in job ok.ranges plan within) (holes job file plan ok.ranges ok.change within d)

@@ -5,6 +5,7 @@ pub mod StoredLaws
 pub mod FileLaws
 pub mod SideLaws
 pub mod HoleLaws
+pub mod BoardLaws
 pub mod DrilledLaws
 pub mod AcceptedLaws
 pub mod HeadlineLaws

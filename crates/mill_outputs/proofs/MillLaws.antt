@@ -6,8 +6,9 @@ use Rattle.board_base.specs.Counts.{Rose}
 use Rattle.board_base.specs.Files.{Files, stored}
 use Rattle.board_base.specs.Shelf.{ShelfState, OnlyReads}
 use Rattle.mill_plan.specs.declared.limits.LimitHit.{LimitHit}
+use Rattle.outline_loops.specs.declared.refusals.OutlineError.{OutlineError}
 use Rattle.endings.specs.declared.status.Status.{Status}
-use Rattle.endings.specs.declared.status.Status.TheVariants.{Done, Usage, Job as RefusedJob, Gerber, Drill as RefusedDrill, TooLong, Limit, ReadFault, WriteFault, Ngc, Watch, Memory}
+use Rattle.endings.specs.declared.status.Status.TheVariants.{Done, Usage, Job as RefusedJob, Gerber, Drill as RefusedDrill, Outline as RefusedOutline, TooLong, Limit, ReadFault, WriteFault, Ngc, Watch, Memory}
 use Rattle.endings.specs.Answers.{IfTold}
 use Rattle.endings.specs.Outputs.{Output, all_stored, IsStopped, Stops, Writes}
 use Rattle.endings.specs.Reads.{Reading, held_in, MayRead, without}
@@ -15,12 +16,13 @@ use Rattle.endings.specs.Ending.{Ending, refusal}
 use Rattle.endings.specs.Run.{IsAnswer}
 use Rattle.endings.specs.Works.{Refuses, Works}
 use Rattle.endings.proofs.RunLaws.{PutsOk, all_told, given_by, from_told_and, refuses_weaker, works_refused}
+use Rattle.mill_inputs.specs.Words.{IsExactUsage}
 use Rattle.mill_inputs.specs.Accepted.{Accepts, accepted}
 use Rattle.mill_inputs.proofs.AcceptLaws.{accepted_not_done}
 use Rattle.mill_outputs.specs.declared.plans.Plans.{Plans}
 use Rattle.mill_outputs.specs.Planned.{ArePlanned}
 use Rattle.mill_outputs.specs.Mill.{files_of, Milled, Answered, ending_of, Ends, AreFilesOf}
-use Rattle.mill_outputs.proofs.PlanLaws.{ok_is, planned_apart, planned_limit, planned_alike}
+use Rattle.mill_outputs.proofs.PlanLaws.{ok_is, IsPlanRefusal, planned_apart, planned_refusal, planned_alike}
 use Rattle.mill_outputs.proofs.FileLaws.{same_writes, plans_not_lines}
 
 -- ---- the three endings
@@ -74,15 +76,19 @@ status_is e f same = ap (λ (e : Ending). e.status) same
 pub of_done : (words : List (List ℕ)) (given : Reading) (e : Ending) → Ends words given e → e.status ≡ Done → (m : Milled) × IsMilled words given m × (e ≡ ending_of (Ok m))
 of_done words given e ends done = by_case (ends_as words given e ends)
   where
-    no_limit : (x : Accepts) (status : Status) → ArePlanned x (Err status) → status ≡ Done → ⊥
-    no_limit x status refused is = apart (planned_limit x status refused).0 (sym (planned_limit x status refused).1 ∙ is)
+    not_done : (status : Status) → IsPlanRefusal status → status ≡ Done → ⊥
+    not_done status (inl limit) is = apart limit.0 (sym limit.1 ∙ is)
       where
         apart : (hit : LimitHit) → Limit hit ≡ Done → ⊥
         apart hit e = cc
+    not_done status (inr outline) is = apart outline.0 (sym outline.1 ∙ is)
+      where
+        apart : (error : OutlineError) → RefusedOutline error ≡ Done → ⊥
+        apart error e = cc
 
     by_case : EndsAs words given e → (m : Milled) × IsMilled words given m × (e ≡ ending_of (Ok m))
     by_case (inl refused) = absurd (accepted_not_done words given (refused.1 ∙ ap Err (sym (status_is e (refusal refused.0) refused.2) ∙ done)))
-    by_case (inr (inl limited)) = absurd (no_limit limited.0 limited.1 limited.3 (sym (status_is e (refusal limited.1) limited.4) ∙ done))
+    by_case (inr (inl limited)) = absurd (not_done limited.1 (planned_refusal limited.0 limited.1 limited.3) (sym (status_is e (refusal limited.1) limited.4) ∙ done))
     by_case (inr (inr milled)) = milled
 
 -- which puts ok
@@ -172,6 +178,7 @@ answers_refused words status before now files told r e ends = by_status status r
     by_status (RefusedJob error) r = so (RefusedJob error) r
     by_status (Gerber role error) r = so (Gerber role error) r
     by_status (RefusedDrill error) r = so (RefusedDrill error) r
+    by_status (RefusedOutline error) r = so (RefusedOutline error) r
     by_status (Ngc role fault line) r = so (Ngc role fault line) r
     by_status (Watch watcher at) r = so (Watch watcher at) r
     by_status (Limit hit) r = so (Limit hit) r
@@ -235,7 +242,7 @@ files_stopped : (x : Accepts) (role : Role) (outputs : List Output) (other : Pla
 unfolding AreFilesOf
 files_stopped x role outputs other before now made planned stopped =
     let alike = planned_alike x made.0 other made.1 planned in
-    same_writes role x.job made.0 other alike.0 alike.1 alike.2 (subst (Writes role) made.2 (stopped_writes role outputs before now stopped))
+    same_writes role x.job made.0 other alike (subst (Writes role) made.2 (stopped_writes role outputs before now stopped))
 
 -- where a write is refused
 pub stop_answers : (words : List (List ℕ)) (x : Accepts) (outputs : List Output) (status : Status) (before between now : ShelfState) → (given : Reading) × MayRead before.files given × (accepted words given ≡ Ok x) → AreFilesOf x outputs
@@ -258,6 +265,7 @@ stop_answers words x outputs status before between now r made same stops = by_st
     by_status (RefusedJob error) stops = absurd stops
     by_status (Gerber role error) stops = absurd stops
     by_status (RefusedDrill error) stops = absurd stops
+    by_status (RefusedOutline error) stops = absurd stops
     by_status (Ngc role fault line) stops = absurd stops
     by_status (Watch watcher at) stops = absurd stops
     by_status (TooLong role) stops = absurd stops
@@ -277,13 +285,40 @@ refusal_works words status before now keeps r =
 pub plan_works : (words : List (List ℕ)) (x : Accepts) (status : Status) (before now : ShelfState) → OnlyReads before now → (given : Reading) × MayRead before.files given × (accepted words given ≡ Ok x)
     → (status ≡ Memory) ⊎ ArePlanned x (Err status) → Works (Ends words) status before now
 plan_works words x status before now keeps r (inl memory) = subst (λ s. Works (Ends words) s before now) (sym memory) (inl keeps.files)
-plan_works words x status before now keeps r (inr refused) = subst (λ s. Works (Ends words) s before now) (sym limit.1) limited
+plan_works words x status before now keeps r (inr refused) = by_kind (planned_refusal x status refused)
   where
-    limit : (hit : LimitHit) × (status ≡ Limit hit)
-    limit = planned_limit x status refused
+    ends : (s : Status) → status ≡ s → (given : Reading) × MayRead before.files given × Ends words given (refusal s)
+    ends s is = (r.0, r.1, ends_limited words r.0 x s r.2 (subst (λ s. ArePlanned x (Err s)) is refused))
 
-    limited : Works (Ends words) (Limit limit.0) before now
-    limited = (keeps.files, keeps.writes, (r.0, r.1, ends_limited words r.0 x (Limit limit.0) r.2 (subst (λ s. ArePlanned x (Err s)) limit.1 refused)))
+    by_kind : IsPlanRefusal status → Works (Ends words) status before now
+    by_kind (inl limit) = subst (λ s. Works (Ends words) s before now) (sym limit.1) (keeps.files, keeps.writes, ends (Limit limit.0) limit.1)
+    by_kind (inr outline) = subst (λ s. Works (Ends words) s before now) (sym outline.1) (keeps.files, keeps.writes, ends (RefusedOutline outline.0) outline.1)
+
+-- a refusal of plans is no usage
+not_usage : (status : Status) (word : ℕ) → (status ≡ Memory) ⊎ IsPlanRefusal status → status ≡ Usage word → ⊥
+not_usage status word (inl memory) e = apart (sym memory ∙ e)
+  where
+    apart : Memory ≡ Usage word → ⊥
+    apart e = cc
+not_usage status word (inr (inl limit)) e = apart limit.0 (sym limit.1 ∙ e)
+  where
+    apart : (hit : LimitHit) → Limit hit ≡ Usage word → ⊥
+    apart hit e = cc
+not_usage status word (inr (inr outline)) e = apart outline.0 (sym outline.1 ∙ e)
+  where
+    apart : (error : OutlineError) → RefusedOutline error ≡ Usage word → ⊥
+    apart error e = cc
+
+pub plan_usage : (words : List (List ℕ)) (x : Accepts) (status : Status) → IsExactUsage words Done → (status ≡ Memory) ⊎ ArePlanned x (Err status) → IsExactUsage words status
+plan_usage words x status accepted refused = record { only = λ word e. absurd (not_usage status word (kind refused) e); comes = λ word e. absurd (never word (accepted.comes word e)) }
+  where
+    kind : (status ≡ Memory) ⊎ ArePlanned x (Err status) → (status ≡ Memory) ⊎ IsPlanRefusal status
+    kind (inl memory) = inl memory
+    kind (inr refused) = inr (planned_refusal x status refused)
+
+    never : (word : ℕ) → (Done ≡ Usage word) ⊎ (Done ≡ Memory) → ⊥
+    never word (inl e) = cc
+    never word (inr e) = cc
 
 files_end : (words : List (List ℕ)) (x : Accepts) (outputs : List Output) (given : Reading) → accepted words given ≡ Ok x → AreFilesOf x outputs
     → (e : Ending) × Ends words given e × (e.status ≡ Done) × (outputs ≡ e.outputs)
@@ -317,6 +352,7 @@ stop_works words x outputs status before between now keeps r made stops = by_sta
     by_status (RefusedJob error) stops = absurd stops
     by_status (Gerber role error) stops = absurd stops
     by_status (RefusedDrill error) stops = absurd stops
+    by_status (RefusedOutline error) stops = absurd stops
     by_status (Ngc role fault line) stops = absurd stops
     by_status (Watch watcher at) stops = absurd stops
     by_status (TooLong role) stops = absurd stops

@@ -19,18 +19,14 @@ use Rattle.mill_plan.specs.Cutting.{side_cutting}
 use Rattle.mill_plan.specs.Mills.{Mills}
 use Rattle.mill_plan.specs.Cuts.{trace_of, run_along, program_along, all_of}
 use Rattle.mill_plan.specs.Isolated.{IsIsolationOf, PartsOthers}
-use Rattle.mill_outputs.specs.Headline.{Side, IsTextOf, NeverBites, PassesVisited, wants_of, FollowsWalks, Clears, Counts, Separates}
-
--- a side that was milled
-abbrev pub milled_side : Job → List Painted → Isolation → Side
-milled_side job image plan = record { job = job; image = image; plan = plan; program = text_of (lines_of plan.program) }
+use Rattle.mill_outputs.specs.Headline.{milled_side, IsTextOf, NeverBites, PassesVisited, wants_of, FollowsWalks, Clears, Counts, Separates}
 
 -- what the run of a program's lines does, the run of their text does
 pub side_runs : SpellingLaw → (p : Program) (P : List Move → Type 0) → IsProgram p → RunsTo (lines_of p) P → Runs (text_of (lines_of p)) P
 unfolding Runs
 side_runs spelled p P program runs = (lines_of p, spelled (lines_of p) (written_lines p program), runs)
 
-runs_weaker : (p : Program) (P Q : List Move → Type 0) → ((moves : List Move) → P moves → Q moves) → RunsTo (lines_of p) P → RunsTo (lines_of p) Q
+pub runs_weaker : (p : Program) (P Q : List Move → Type 0) → ((moves : List Move) → P moves → Q moves) → RunsTo (lines_of p) P → RunsTo (lines_of p) Q
 unfolding RunsTo
 runs_weaker p P Q weaker runs answers =
     let found = runs answers in

@@ -21,12 +21,16 @@ use Rattle.drill_plan.specs.declared.plans.ToolPlan.{ToolPlan}
 use Rattle.drill_program.specs.Program.{program_of}
 use Rattle.drill_program.specs.Holes.{HolesAreDrilled}
 use Rattle.job_file.specs.declared.job.Job.{Job}
+use Rattle.job_file.specs.Checks.{radius_of}
 use Rattle.mill_plan.specs.declared.isolation.Isolation.{Isolation}
 use Rattle.mill_plan.specs.Cutting.{bite_of, kept_by, side_cutting, IsVisited}
 use Rattle.mill_plan.specs.Frame.{IsFrameOf}
 use Rattle.mill_plan.specs.Mills.{IsProgramOf}
 use Rattle.mill_plan.specs.Cuts.{AreSideWalks, all_of, trace_of}
 use Rattle.mill_plan.specs.Isolated.{AreJoinedGroups, ListsJoined, PartsOthers, ClearsBox}
+use Rattle.outline_plan.specs.declared.plan.OutlineCut.{OutlineCut}
+use Rattle.outline_plan.specs.Job.{bridge_width}
+use Rattle.outline_plan.specs.CutOut.{Outlines, CutsOut}
 use Rattle.endings.specs.Outputs.{Output, all_stored}
 use Rattle.endings.specs.Reads.{held_in}
 use Rattle.mill_inputs.specs.Accepted.{Accepts, accepted}
@@ -49,6 +53,11 @@ pub record Wrote (P : Milled → Type 0) (words : List (List ℕ)) (before : Fil
   pub each : (file : Output) → Contains (files_of accepts.job plans) file → get after file.name ≡ Some file.bytes
   pub holds : P (record { accepts = accepts; plans = plans })
 
+-- what two parts make, where both are there
+abbrev pub pair_if : {A B C : Type 0} → (A → B → C) → Option A → Option B → List C
+pair_if make (Some one) (Some other) = make one other ∷ []
+pair_if make one other = []
+
 -- ---- the sides
 
 -- a side that was milled: its image as it is milled, its plan, and the bytes of its program
@@ -58,13 +67,12 @@ pub record Side : Type 0 where
   pub plan : Isolation
   pub program : List ℕ
 
-abbrev pub side_of : Job → Option (List Painted) → Option Isolation → List Side
-side_of job (Some image) (Some plan) = record { job = job; image = image; plan = plan; program = text_of (lines_of plan.program) } ∷ []
-side_of job image plan = []
+abbrev pub milled_side : Job → List Painted → Isolation → Side
+milled_side job image plan = record { job = job; image = image; plan = plan; program = text_of (lines_of plan.program) }
 
 -- the front and the back, as far as they were milled
 abbrev pub sides_of : Milled → List Side
-sides_of m = side_of m.accepts.job m.accepts.front m.plans.front ++ side_of m.accepts.job m.accepts.back m.plans.back
+sides_of m = pair_if (milled_side m.accepts.job) m.accepts.front m.plans.front ++ pair_if (milled_side m.accepts.job) m.accepts.back m.plans.back
 
 -- each side that was milled
 abbrev pub OfSides : (Side → Type 0) → Milled → Type 0
@@ -129,15 +137,41 @@ pub record Drilling : Type 0 where
   pub plan : List ToolPlan
   pub program : List ℕ
 
-abbrev pub drilling_of : Job → Option DrillFile → Option (List ToolPlan) → List Drilling
-drilling_of job (Some file) (Some plan) = record { job = job; file = file; plan = plan; program = text_of (lines_of (program_of job plan)) } ∷ []
-drilling_of job file plan = []
+abbrev pub drilling : Job → DrillFile → List ToolPlan → Drilling
+drilling job file plan = record { job = job; file = file; plan = plan; program = text_of (lines_of (program_of job plan)) }
 
 -- the same, as far as the job names a drill file
 abbrev pub OfHoles : (Drilling → Type 0) → Milled → Type 0
-OfHoles P m = All P (drilling_of m.accepts.job m.accepts.drill m.plans.drill)
+OfHoles P m = All P (pair_if (drilling m.accepts.job) m.accepts.drill m.plans.drill)
 
 -- the program's run drills each hole of the file once and cuts each slot once, with the tool for its diameter and under the
 -- tool's number, exactly to the drill's depth, and cuts nothing else
 abbrev pub DrillsHoles : Drilling → Type 0
 DrillsHoles d = Runs d.program (HolesAreDrilled d.job d.file d.plan)
+
+-- ---- the outline
+
+-- a board that was cut out: the image of its outline, what was planned, and the bytes of the program
+pub record CutBoard : Type 0 where
+  pub job : Job
+  pub image : List Painted
+  pub plan : OutlineCut
+  pub program : List ℕ
+
+abbrev pub cut_board : Job → List Painted → OutlineCut → CutBoard
+cut_board job image plan = record { job = job; image = image; plan = plan; program = text_of (lines_of plan.program) }
+
+-- the same, as far as the job names an outline
+abbrev pub OfOutline : (CutBoard → Type 0) → Milled → Type 0
+OfOutline P m = All P (pair_if (cut_board m.accepts.job) m.accepts.outline m.plans.outline)
+
+-- The frame, the counts and the bridges of the report are those of the outline's board. The program's run doesn't reach into
+-- it, goes along each level of each walk, with its unit steps lifted exactly where they are near a bridge, and cuts nothing
+-- else.
+pub record CutsBoardOut (b : CutBoard) : Type 0 where
+  pub plan : CutsOut b.job b.image b.plan
+  pub runs : Runs b.program (Outlines b.job plan.loops (b.plan.bridges).items plan.walks b.plan.program)
+
+-- each bridge that the report lists stands: the turning cutter comes nowhere near its centre below the height of bridges
+abbrev pub LeavesBridges : CutBoard → Type 0
+LeavesBridges b = Runs b.program (λ moves. NoBite (b.job.zbridges *ℤ nanometre) (Contains (b.plan.bridges).items) (radius_of (bridge_width b.job)) moves)

@@ -8,6 +8,7 @@ use Rattle.job_file.specs.declared.job.Job.{Job}
 use Rattle.drill_plan.specs.declared.plans.ToolPlan.{ToolPlan}
 use Rattle.drill_program.specs.Program.{program_of}
 use Rattle.mill_plan.specs.declared.isolation.Isolation.{Isolation}
+use Rattle.outline_plan.specs.declared.plan.OutlineCut.{OutlineCut}
 use Rattle.endings.specs.declared.status.Status.{Status}
 use Rattle.endings.specs.declared.status.Status.TheVariants.{Done}
 use Rattle.endings.specs.Lines.{line_of}
@@ -25,26 +26,34 @@ abbrev pub named : Option (List ℕ) → List ℕ → List ℕ
 named None name = name
 named (Some base) name = base ++ codes "_" ++ name
 
--- the program of a side that was planned
+-- a file of what was planned, where that is there
+abbrev pub file_if : {A : Type 0} → Role → List ℕ → (A → List ℕ) → Option A → List Output
+file_if role name bytes None = []
+file_if role name bytes (Some plan) = record { role = role; name = name; bytes = bytes plan } ∷ []
+
+-- the program of a side
 abbrev pub program_file : Option (List ℕ) → Role → List ℕ → Option Isolation → List Output
-program_file base role name None = []
-program_file base role name (Some plan) = record { role = role; name = named base name; bytes = text_of (lines_of plan.program) } ∷ []
+program_file base role name plan = file_if role (named base name) (λ (plan : Isolation). text_of (lines_of plan.program)) plan
+
+-- the program of the holes
+abbrev pub drill_file : Job → Option (List ToolPlan) → List Output
+drill_file job plan = file_if roles.Drill (named job.basename (codes "drill.ngc")) (λ plan. text_of (lines_of (program_of job plan))) plan
+
+-- the program of the outline
+abbrev pub outline_file : Option (List ℕ) → Option OutlineCut → List Output
+outline_file base plan = file_if roles.Outline (named base (codes "outline.ngc")) (λ (plan : OutlineCut). text_of (lines_of plan.program)) plan
 
 -- the report
 abbrev pub report_file : Option (List ℕ) → Plans → Output
 report_file base plans = record { role = roles.Report; name = named base (codes "report.txt"); bytes = report_text plans }
 
--- the program of the holes
-abbrev pub drill_file : Job → Option (List ToolPlan) → List Output
-drill_file job None = []
-drill_file job (Some plan) = record { role = roles.Drill; name = named job.basename (codes "drill.ngc"); bytes = text_of (lines_of (program_of job plan)) } ∷ []
-
--- the program of each side, the front's before the back's, that of the holes, and then the report
+-- the program of each side, the front's before the back's, those of the holes and of the outline, and then the report
 unfoldable pub files_of : Job → Plans → List Output
 files_of job plans =
     program_file job.basename roles.Front (codes "front.ngc") plans.front
     ++ program_file job.basename roles.Back (codes "back.ngc") plans.back
     ++ drill_file job plans.drill
+    ++ outline_file job.basename plans.outline
     ++ report_file job.basename plans ∷ []
 
 -- what was accepted, and what was planned for it

@@ -1,5 +1,5 @@
 -- What is planned for what was accepted, or the first refusal of the plans in their order.
-use Rattle.std.specs.Prelude.{◌≡◌, ◌⊎◌, List, Option, Some, None, Result, Ok, Err}
+use Rattle.std.specs.Prelude.{◌≡◌, ◌≢◌, ◌⊎◌, List, Option, Some, None, Result, Ok, Err}
 use Rattle.shape_parts.specs.declared.shape.Painted.{Painted}
 use Rattle.excellon.specs.declared.file.DrillFile.{DrillFile}
 use Rattle.drill_plan.specs.declared.plans.ToolPlan.{ToolPlan}
@@ -10,8 +10,12 @@ use Rattle.mill_plan.specs.declared.limits.LimitHit.{LimitHit}
 use Rattle.mill_plan.specs.Cutting.{side_cutting}
 use Rattle.mill_plan.specs.Frame.{HitsLimit}
 use Rattle.mill_plan.specs.Isolated.{IsIsolationOf}
+use Rattle.outline_plan.specs.declared.plan.OutlineCut.{OutlineCut}
+use Rattle.outline_plan.specs.declared.errors.OutlinePlanError.{OutlinePlanError}
+use Rattle.outline_plan.specs.declared.errors.OutlinePlanError.TheVariants as refusals
+use Rattle.outline_plan.specs.Answers.{Answers}
 use Rattle.endings.specs.declared.status.Status.{Status}
-use Rattle.endings.specs.declared.status.Status.TheVariants.{Limit, Memory}
+use Rattle.endings.specs.declared.status.Status.TheVariants.{Outline, Limit, Memory}
 use Rattle.endings.specs.Steps.{Is, Then}
 use Rattle.mill_inputs.specs.Accepted.{Accepts}
 use Rattle.mill_outputs.specs.declared.plans.Plans.{Plans}
@@ -42,13 +46,26 @@ abbrev pub IsDrill : Job → DrillFile → Result (List ToolPlan) Status → Typ
 IsDrill job file (Ok plan) = IsDrillPlan file job.drills_available plan
 IsDrill job file (Err status) = ⊥
 
--- the plans: of the front, of the back, of the holes
+-- what a refusal of the outline is to the command
+abbrev pub outline_refused : OutlinePlanError → Status
+outline_refused (refusals.Outline error) = Outline error
+outline_refused (refusals.Limit hit) = Limit hit
+outline_refused refusals.Memory = Memory
+
+-- the plan that cuts the board out, or the refusal of its outline
+abbrev pub IsOutline : Job → List Painted → Result OutlineCut Status → Type 0
+IsOutline job painted (Ok plan) = Answers job painted (Ok plan)
+IsOutline job painted (Err status) =
+    (error : OutlinePlanError) × (error ≢ refusals.Memory) × (status ≡ outline_refused error) × Answers job painted (Err error)
+
+-- the plans: of the front, of the back, of the holes, of the outline
 abbrev pub ArePlanned : Accepts → Result Plans Status → Type 0
 ArePlanned x =
     Then (IfGiven x.front (IsSide x.job)) (λ front.
     Then (IfGiven x.back (IsSide x.job)) (λ back.
     Then (IfGiven x.drill (IsDrill x.job)) (λ drill.
-    Is (Ok (record { front = front; back = back; drill = drill })))))
+    Then (IfGiven x.outline (IsOutline x.job)) (λ outline.
+    Is (Ok (record { front = front; back = back; drill = drill; outline = outline }))))))
 
 -- the refusal is the step's one answer, or memory was wanting
 abbrev pub IsOneRefusal : {A : Type 0} → (Result A Status → Type 0) → Status → Type 0

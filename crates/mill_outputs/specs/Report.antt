@@ -6,6 +6,9 @@ use Rattle.std.specs.List.{enumerate_from}
 use Rattle.fixed_num.specs.Rounding.{round_div_of}
 use Rattle.drill_plan.specs.declared.plans.ToolPlan.{ToolPlan}
 use Rattle.drill_plan.specs.Limits.{counts_of}
+use Rattle.fixed_num.specs.Fixed.{fixed6}
+use Rattle.board_base.specs.declared.places.Point.{Point}
+use Rattle.outline_plan.specs.declared.plan.OutlineCut.{OutlineCut}
 use Rattle.mill_outputs.specs.declared.plans.Plans.{Plans}
 
 -- what the report tells of a side: its frame, its counts of kept cells, islands, visited cells and walks, and its groups
@@ -81,7 +84,28 @@ abbrev pub drill_if : Option (List ToolPlan) → List ℕ
 drill_if None = []
 drill_if (Some plan) = drill_text plan
 
--- the report of what was planned: its first line, the lines of each side and of the holes, and its last line
+-- nanometres, in millimetres with six decimals
+unfoldable pub in_millimetres : ℤ → List ℕ
+in_millimetres v = fixed6 v
+
+-- the line of a bridge, with its place
+unfoldable pub bridge_line : Point → List ℕ
+bridge_line at = codes "bridge " ++ in_millimetres at.x ++ codes " " ++ in_millimetres at.y ++ codes "\n"
+
+-- the counts of walks, levels and bridges
+unfoldable pub cut_counts : OutlineCut → List ℕ
+cut_counts plan = codes " chains " ++ decimal plan.chains ++ codes " passes " ++ decimal plan.passes ++ codes " bridges " ++ decimal (length (plan.bridges).items)
+
+-- the line of the frame and the counts, and then one for each bridge
+unfoldable pub outline_text : OutlineCut → List ℕ
+outline_text plan = codes "outline" ++ frame_text plan.frame ++ cut_counts plan ++ codes "\n" ++ flat_map bridge_line (plan.bridges).items
+
+-- the same, where there is an outline
+abbrev pub outline_if : Option OutlineCut → List ℕ
+outline_if None = []
+outline_if (Some plan) = outline_text plan
+
+-- the report of what was planned: its first line, the lines of each side, of the holes and of the outline, and its last line
 unfoldable pub report_text : Plans → List ℕ
 report_text plans =
-    codes "pcbmill report 1\n" ++ side_if (codes "front") plans.front ++ side_if (codes "back") plans.back ++ drill_if plans.drill ++ codes "end\n"
+    codes "pcbmill report 1\n" ++ side_if (codes "front") plans.front ++ side_if (codes "back") plans.back ++ drill_if plans.drill ++ outline_if plans.outline ++ codes "end\n"

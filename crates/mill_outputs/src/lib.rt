@@ -1,11 +1,12 @@
-//! What `mill` makes of what it accepted: the plan of each side and of the holes, their programs, and the report; and
-//! what Done means (specs/Headline). A further output is a plan (specs/Planned), an entry of `files_of` (specs/Mill)
+//! What `mill` makes of what it accepted: the plan of each side, of the holes and of the outline, their programs, and the
+//! report; and what Done means (specs/Headline). A further output is a plan (specs/Planned), an entry of `files_of` (specs/Mill)
 //! and its lines of the report. Nothing is read or written here.
 #![tactic(auto)]
 
 mod drill_report;
 mod laws;
 mod make;
+mod outline_report;
 mod planned;
 mod plans;
 mod report;

@@ -12,7 +12,7 @@ ghost use Rattle.endings.specs.declared.status.Status.{Status};
 ghost use Rattle.endings.specs.declared.status.Status.TheVariants as Statuses;
 ghost use Rattle.mill_inputs.specs.Accepted.{accepts_of, IsNamed, IsDrillOf};
 ghost use Rattle.mill_outputs.specs.Planned.{ArePlanned};
-ghost use Rattle.mill_outputs.specs.Mill.{named, program_file, drill_file, files_of, AreFilesOf};
+ghost use Rattle.mill_outputs.specs.Mill.{named, program_file, drill_file, outline_file, files_of, AreFilesOf};
 ghost use Rattle.mill_outputs.specs.declared.plans.Plans.{Plans};
 
 use crate::Plans;
@@ -27,6 +27,7 @@ use mill_inputs::Accepted;
 use mill_plan::Isolation;
 use mill_program::{Program, lines};
 use ngc_writer::write_program;
+use outline_plan::OutlineCut;
 use std::alloc::{AllocError, Global};
 
 // The name of a file: behind the job's base name and an underscore, where there is one.
@@ -112,6 +113,25 @@ fn add_drill_program(
     }
 }
 
+// Adds the program of the outline where there is one.
+fn add_outline_program(
+    alloc: Global,
+    files: &mut Vec<OutFile>,
+    base: &Option<Name>,
+    plan: &Option<OutlineCut>,
+) -> Result<(), AllocError>
+    requires { IfSome plan.now (λ p. IsProgram p.program) }
+    ensures { OnOk result (outputs_of files.new.items ≡ outputs_of files.old.items ++ outline_file base.now plan.now) }
+{
+    match plan {
+        Some(plan) => {
+            let bytes = program_bytes(alloc, &plan.program)?;
+            add_file(alloc, files, base, Role::Outline, "outline.ngc", bytes)
+        }
+        None => Ok(()),
+    }
+}
+
 // The files of what was planned: the programs, and then the report.
 #[tactic(auto, unfolding(crate::specs::Mill::files_of))]
 fn plan_files(alloc: Global, job: &Job, plans: &Plans) -> Result<Vec<OutFile>, AllocError>
@@ -120,11 +140,12 @@ fn plan_files(alloc: Global, job: &Job, plans: &Plans) -> Result<Vec<OutFile>, A
     requires front { IfSome (plans.now).front (λ p. IsProgram p.program) }
     requires back { IfSome (plans.now).back (λ p. IsProgram p.program) }
     requires drill { IfSome (plans.now).drill IsWithinLimits }
+    requires outline { IfSome (plans.now).outline (λ p. IsProgram p.program) }
     ensures { IfOk result (λ files. outputs_of files.items ≡ files_of job.now plans.now) }
 {
     let base = &job.basename;
     let report = report(alloc, plans)?;
-    let mut files = Vec::with_capacity(alloc, 4)?;
+    let mut files = Vec::with_capacity(alloc, 5)?;
     add_program(
         alloc,
         &mut files,
@@ -135,15 +156,17 @@ fn plan_files(alloc: Global, job: &Job, plans: &Plans) -> Result<Vec<OutFile>, A
     )?;
     add_program(alloc, &mut files, base, Role::Back, "back.ngc", &plans.back)?;
     add_drill_program(alloc, &mut files, job, &plans.drill)?;
+    add_outline_program(alloc, &mut files, base, &plans.outline)?;
     add_file(alloc, &mut files, base, Role::Report, "report.txt", report)?;
     Ok(files)
 }
 
-/// Plans what was accepted, and makes the programs of the sides and of the holes, and the report.
+/// Plans what was accepted, and makes the programs of the sides, of the holes and of the outline, and the report.
 ///
 /// # Errors
 ///
-/// `Limit` where a side passes a limit, the front before the back, and `Memory`.
+/// `Limit` where a side passes a limit, the front before the back, then `Outline`, then `Limit` where the outline passes
+/// one, and `Memory`.
 pub fn make_files(alloc: Global, accepted: &Accepted) -> Result<Vec<OutFile>, Status>
     requires named { IsNamed (accepts_of accepted.now) }
     requires ranges { IsInRanges (accepted.now).job }

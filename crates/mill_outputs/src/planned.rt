@@ -6,8 +6,9 @@ ghost use Rattle.drill_plan.specs.Plan.{IsDrillPlan};
 ghost use Rattle.job_file.specs.Ranges.{IsInRanges};
 ghost use Rattle.job_file.specs.Together.{GoTogether};
 ghost use Rattle.mill_plan.specs.Job.{IsSideJob};
+ghost use Rattle.outline_plan.specs.Job.{IsOutlineJob};
 ghost use Rattle.mill_inputs.specs.Accepted.{accepts_of, IsNamed};
-ghost use Rattle.mill_outputs.specs.Planned.{IsSidePlan, IsSide, IfGiven, IsDrill, ArePlanned, IsOneRefusal};
+ghost use Rattle.mill_outputs.specs.Planned.{IsSidePlan, IsSide, IfGiven, IsDrill, outline_refused, IsOutline, ArePlanned, IsOneRefusal};
 
 use crate::Plans;
 use drill_plan::{DrillPlan, plan};
@@ -16,6 +17,7 @@ use excellon::DrillFile;
 use job_file::Job;
 use mill_inputs::Accepted;
 use mill_plan::{Isolation, PlanError, isolate};
+use outline_plan::{OutlineCut, OutlinePlanError, cut_out};
 use shape_parts::Painted;
 use std::alloc::{AllocError, Global};
 
@@ -74,11 +76,55 @@ fn plan_drill_if(
     }
 }
 
-/// The plans of what was accepted: of the front, of the back, of the holes.
+// What a refusal of the outline is to the command.
+fn outline_refusal(error: OutlinePlanError) -> Status
+    ensures { result ≡ outline_refused error }
+{
+    match error {
+        OutlinePlanError::Outline(error) => Status::Outline(error),
+        OutlinePlanError::Limit(hit) => Status::Limit(hit),
+        OutlinePlanError::Memory => Status::Memory,
+    }
+}
+
+// The plan that cuts the board out.
+fn plan_outline(alloc: Global, painted: &Vec<Painted>, job: &Job) -> Result<OutlineCut, Status>
+    requires { IsOutlineJob job.now }
+    ensures { MatchResult result
+        (λ plan. IsOutline job.now painted.now.items (Ok plan)) (IsOneRefusal (IsOutline job.now painted.now.items)) }
+{
+    match cut_out(alloc, painted, job) {
+        Ok(plan) => Ok(plan),
+        Err(error) => Err(outline_refusal(error)),
+    }
+}
+
+// The plan that cuts the board out where there is an outline.
+fn plan_outline_if(
+    alloc: Global,
+    painted: &Option<Vec<Painted>>,
+    job: &Job,
+) -> Result<Option<OutlineCut>, Status>
+    requires { is_some painted.now ≡ true → IsOutlineJob job.now }
+    ensures { MatchResult result
+        (λ plan. IfGiven (option_map (λ v. v.items) painted.now) (IsOutline job.now) (Ok plan))
+        (IsOneRefusal (IfGiven (option_map (λ v. v.items) painted.now) (IsOutline job.now))) }
+{
+    match painted {
+        None => Ok(None),
+        Some(painted) => match plan_outline(alloc, painted, job) {
+            Ok(plan) => Ok(Some(plan)),
+            Err(status) => Err(status),
+        },
+    }
+}
+
+/// The plans of what was accepted: of the front, of the back, of the holes, of the outline.
 ///
 /// # Errors
 ///
-/// `Limit` where a side passes a limit, and `Memory`.
+/// `Limit` where a side passes a limit, then `Outline` where the outline is open at an end or has no loop, then `Limit`
+/// where it passes a limit, and `Memory`.
 pub fn make_plans(alloc: Global, accepted: &Accepted) -> Result<Plans, Status>
     requires named { IsNamed (accepts_of accepted.now) }
     requires ranges { IsInRanges (accepted.now).job }
@@ -96,8 +142,17 @@ pub fn make_plans(alloc: Global, accepted: &Accepted) -> Result<Plans, Status>
         Ok(back) => back,
         Err(status) => return Err(status),
     };
-    match plan_drill_if(alloc, &accepted.drill, &accepted.job) {
-        Ok(drill) => Ok(Plans { front, back, drill }),
-        Err(_) => Err(Status::Memory),
+    let drill = match plan_drill_if(alloc, &accepted.drill, &accepted.job) {
+        Ok(drill) => drill,
+        Err(_) => return Err(Status::Memory),
+    };
+    match plan_outline_if(alloc, &accepted.outline, &accepted.job) {
+        Ok(outline) => Ok(Plans {
+            front,
+            back,
+            drill,
+            outline,
+        }),
+        Err(status) => Err(status),
     }
 }

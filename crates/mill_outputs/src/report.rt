@@ -5,6 +5,7 @@ ghost use Rattle.mill_outputs.specs.Report.{side_of, frame_text, counts_text, co
 
 use crate::Plans;
 use crate::drill_report::add_drill_if;
+use crate::outline_report::add_outline_if;
 use cell_grid::Frame;
 use itoa::Buffer;
 use mill_plan::Isolation;
@@ -21,9 +22,9 @@ pub fn add_count(bytes: &mut Vec<u8>, label: &str, n: u64) -> Result<(), AllocEr
     Ok(())
 }
 
-// Appends the sides of a frame.
+/// Appends the sides of a frame. The only error is want of memory.
 #[tactic(auto, unfolding(crate::specs::Report::frame_text))]
-fn add_frame(bytes: &mut Vec<u8>, frame: Frame) -> Result<(), AllocError>
+pub fn add_frame(bytes: &mut Vec<u8>, frame: Frame) -> Result<(), AllocError>
     ensures { OnOk result (bytes.new.items ≡ bytes.old.items ++ frame_text frame) }
 {
     add_count(bytes, " frame ", frame.width as u64)?;
@@ -113,6 +114,7 @@ pub fn report(alloc: Global, plans: &Plans) -> Result<Vec<u8>, AllocError>
     add_side_if(&mut bytes, "front", &plans.front)?;
     add_side_if(&mut bytes, "back", &plans.back)?;
     add_drill_if(&mut bytes, &plans.drill)?;
+    add_outline_if(alloc, &mut bytes, &plans.outline)?;
     bytes.extend_from_slice(b"end\n")?;
     Ok(bytes)
 }

@@ -14,6 +14,8 @@ mod holes;
 #[cfg(test)]
 mod lines;
 #[cfg(test)]
+mod outlines;
+#[cfg(test)]
 mod sides;
 #[cfg(test)]
 mod simulations;

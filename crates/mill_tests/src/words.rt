@@ -78,11 +78,11 @@ const JOBS: [(&str, JobKind, u8, u32, &str); 8] = [
         "OutOfRange key 8 place 2",
     ),
     (
-        "front=a.gbr\noutline=a.gbr\n",
+        "front=a.gbr\ntile-x=2\n",
         JobKind::NotBuiltYet,
-        4,
+        31,
         2,
-        "NotBuiltYet key 4 place 2",
+        "NotBuiltYet key 31 place 2",
     ),
 ];
 

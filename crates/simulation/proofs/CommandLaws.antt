@@ -18,7 +18,7 @@ use Rattle.ngc_reader.specs.declared.error.NgcKind.{NgcKind}
 use Rattle.ngc_reader.specs.declared.error.NgcKind.TheVariants as kinds
 use Rattle.ngc_reader.specs.Gives.{FailsAt}
 use Rattle.endings.specs.declared.status.Status.{Status}
-use Rattle.endings.specs.declared.status.Status.TheVariants.{Done, Usage, Job, Gerber, Drill, TooLong, Limit, ReadFault, WriteFault, Ngc, Watch, Memory}
+use Rattle.endings.specs.declared.status.Status.TheVariants.{Done, Usage, Job, Gerber, Drill, Outline, TooLong, Limit, ReadFault, WriteFault, Ngc, Watch, Memory}
 use Rattle.endings.specs.Answers.{usage, MakesOf}
 use Rattle.endings.specs.Ending.{Ending}
 use Rattle.endings.specs.Reads.{Reading, MayRead}
@@ -54,6 +54,7 @@ makes_weaker view all step whole (Usage word) weaker h = weaker h
 makes_weaker view all step whole (Job error) weaker h = weaker h
 makes_weaker view all step whole (Gerber role error) weaker h = weaker h
 makes_weaker view all step whole (Drill error) weaker h = weaker h
+makes_weaker view all step whole (Outline error) weaker h = weaker h
 makes_weaker view all step whole (TooLong role) weaker h = weaker h
 makes_weaker view all step whole (Limit hit) weaker h = weaker h
 makes_weaker view all step whole (ReadFault role) weaker h = weaker h
@@ -175,6 +176,7 @@ gives_outcome limits words names s result before now last e read made = by_resul
     by_status (Job error) h = so (Err (Job error)) h
     by_status (Gerber role error) h = so (Err (Gerber role error)) h
     by_status (Drill error) h = so (Err (Drill error)) h
+    by_status (Outline error) h = so (Err (Outline error)) h
     by_status (TooLong role) h = absurd (outcome_of_line limits (sources_of s) (TooLong role) h)
     by_status (Limit hit) h = so (Err (Limit hit)) h
     by_status (ReadFault role) h = absurd (outcome_of_line limits (sources_of s) (ReadFault role) h)

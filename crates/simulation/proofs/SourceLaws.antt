@@ -12,7 +12,7 @@ use Rattle.board_base.specs.Counts.{Rose, RoseBy}
 use Rattle.board_base.specs.Files.{Files}
 use Rattle.board_base.specs.Shelf.{ShelfState, OnlyReads}
 use Rattle.endings.specs.declared.status.Status.{Status}
-use Rattle.endings.specs.declared.status.Status.TheVariants.{Done, Usage, Job, Gerber, Drill, TooLong, Limit, ReadFault, WriteFault, Ngc, Watch, Memory}
+use Rattle.endings.specs.declared.status.Status.TheVariants.{Done, Usage, Job, Gerber, Drill, Outline, TooLong, Limit, ReadFault, WriteFault, Ngc, Watch, Memory}
 use Rattle.endings.specs.Limits.{most_bytes}
 use Rattle.endings.specs.Lines.{role_name}
 use Rattle.endings.specs.Reads.{Reading, held_in, MayRead, without, accepted_bytes, input}
@@ -69,6 +69,7 @@ input_later role name before mid now (Err (Usage word)) keeps h = absurd h
 input_later role name before mid now (Err (Job error)) keeps h = absurd h
 input_later role name before mid now (Err (Gerber r error)) keeps h = absurd h
 input_later role name before mid now (Err (Drill error)) keeps h = absurd h
+input_later role name before mid now (Err (Outline error)) keeps h = absurd h
 input_later role name before mid now (Err (Limit hit)) keeps h = absurd h
 input_later role name before mid now (Err (WriteFault r)) keeps h = absurd h
 input_later role name before mid now (Err (Ngc r fault line)) keeps h = absurd h
@@ -146,6 +147,7 @@ refuses_program p o (Usage word) before now r = absurd r
 refuses_program p o (Job error) before now r = absurd r
 refuses_program p o (Gerber role error) before now r = absurd r
 refuses_program p o (Drill error) before now r = absurd r
+refuses_program p o (Outline error) before now r = absurd r
 refuses_program p o (Limit hit) before now r = absurd r
 refuses_program p o (WriteFault role) before now r = absurd r
 refuses_program p o (Ngc role fault line) before now r = absurd r
@@ -178,6 +180,7 @@ probes_out p q program (Usage word) before now few read r = absurd r
 probes_out p q program (Job error) before now few read r = absurd r
 probes_out p q program (Gerber role error) before now few read r = absurd r
 probes_out p q program (Drill error) before now few read r = absurd r
+probes_out p q program (Outline error) before now few read r = absurd r
 probes_out p q program (Limit hit) before now few read r = absurd r
 probes_out p q program (WriteFault role) before now few read r = absurd r
 probes_out p q program (Ngc role fault line) before now few read r = absurd r

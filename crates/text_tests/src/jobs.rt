@@ -54,8 +54,8 @@ fn lines_are_refused_at_their_places(rt: HostRuntime) {
         ),
         ("# board\nmetric=true\n", (JobKind::Missing, 0, 0)),
         ("front=a\n\nx\n", (JobKind::BadValue, 0, 3)),
-        ("front=a\noutline=b\n", (JobKind::NotBuiltYet, 4, 2)),
-        ("outline=b\r\n", (JobKind::NotBuiltYet, 4, 1)),
+        ("front=a\ntile-x=2\n", (JobKind::NotBuiltYet, 31, 2)),
+        ("outline=b\r\nal-front=1\r\n", (JobKind::NotBuiltYet, 33, 2)),
     ] {
         assert_eq!(rt;
             read(rt.alloc(), file, &[], None).err(),

@@ -1,5 +1,6 @@
-use Rattle.mill_outputs.specs.Headline.{IsTextOf, NeverBites, PassesVisited, FollowsWalks, Clears, Counts, Separates}
-use Rattle.mill_outputs.proofs.HeadlineLaws.{sides_after_done, holes_after_done}
+use Rattle.mill_outputs.specs.Headline.{IsTextOf, NeverBites, PassesVisited, FollowsWalks, Clears, Counts, Separates, CutsBoardOut, LeavesBridges}
+use Rattle.mill_outputs.proofs.HeadlineLaws.{sides_after_done, holes_after_done, outline_after_done}
+use Rattle.mill_outputs.proofs.BoardLaws.{cuts_board_out, leaves_bridges}
 use Rattle.mill_outputs.proofs.SideLaws.{side_text, side_never_bites, side_passes, side_follows, side_clears, side_counts, side_separates}
 use Rattle.mill_outputs.proofs.laws.headline_law.Goals as goal
 
@@ -26,3 +27,9 @@ returns-clause-separates c = sides_after_done Separates (side_separates c.spelli
 
 pub returns-clause-holes : goal.returns-clause-holes
 returns-clause-holes c = holes_after_done c.spelling_law.ensures c.holes_law.ensures c.few_diameters_law.ensures c.limits_law.ensures
+
+pub returns-clause-outline : goal.returns-clause-outline
+returns-clause-outline c = outline_after_done CutsBoardOut (cuts_board_out c.spelling_law.ensures)
+
+pub returns-clause-bridges : goal.returns-clause-bridges
+returns-clause-bridges c = outline_after_done LeavesBridges (leaves_bridges c.spelling_law.ensures)
