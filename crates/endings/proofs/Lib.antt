@@ -1,3 +1,4 @@
 pub mod TellLaws
 pub mod RunLaws
 pub mod AloneLaws
+pub mod ReadingLaws

@@ -74,10 +74,11 @@ broke_longer lines more result before now (inl (is, rose, f)) =
 broke_longer lines more result before now (inr (is, f)) =
     inr (is, (length (take f.0 lines), f.1, f.2 ∙ ap (λ t. appended (t ++ take f.1 (line_of Memory)) before.text) (sym (longer_prefix lines more f.0))))
 
--- lines that broke off behind others
-rose_before : (n a b c : ℕ) → a ≤ b → RoseBy n b c → RoseBy n a c
+-- a count that rose from a later one rose from an earlier one
+pub rose_before : (n a b c : ℕ) → a ≤ b → RoseBy n b c → RoseBy n a c
 rose_before n a b c more rose = grind (arith, common_steps)
 
+-- lines that broke off behind others
 behind_first : (first line last : List ℕ) (m : ℕ) (before between now : Option (List ℕ)) → between ≡ appended first before → now ≡ appended (take m line ++ last) between → now ≡ appended (take (length first + m) (first ++ line) ++ last) before
 behind_first first line last m before between now e f =
     after_first first (take m line ++ last) before between now e f

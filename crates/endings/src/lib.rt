@@ -9,6 +9,7 @@ mod lines;
 mod out_file;
 mod status;
 mod telling;
+mod words;
 
 pub use board_base::{Role, Shelf, Sink};
 pub use delivery::deliver;
@@ -23,3 +24,4 @@ pub use outline_loops::OutlineError;
 pub use rs274_sim::SimFault;
 pub use status::{NgcOrSim, Status};
 pub use telling::{tell, tell_lines};
+pub use words::{begins_with, is_dashed, is_file_word, text_at};

@@ -20,9 +20,11 @@ use Rattle.mill_inputs.specs.declared.acceptance.Accepted.{Accepted as AcceptedS
 use Rattle.mill_inputs.specs.Words.{words_of, IsExactUsage}
 use Rattle.mill_inputs.specs.Accepted.{Accepts, accepts_of, IsNamed, IsDrillOf, job_bytes, job_refused, job_or_refused, job_in, input_if, Inputs, inputs_of, contents_of, accepted}
 use Rattle.mill_inputs.proofs.StepLaws.{carries_all, refuses_onto, joins, carries_second, from_earlier, IsOfBytes, err_is, made_refuses}
-use Rattle.mill_inputs.proofs.ReadLaws.{some_reading, still, IsReadOf, job_text_refused}
+use Rattle.endings.proofs.ReadingLaws.{some_reading, still}
+use Rattle.mill_inputs.proofs.ReadLaws.{IsReadOf, job_text_refused}
 use Rattle.mill_inputs.proofs.InputLaws.{IsOfFiles, inputs_refused, is_job, job_apart}
-use Rattle.mill_inputs.proofs.ContentLaws.{step, ok_is, contents_refused, AreOf, contents_there}
+use Rattle.job_file.proofs.FitLaws.{step}
+use Rattle.mill_inputs.proofs.ContentLaws.{ok_is, contents_refused, AreOf, contents_there}
 
 -- ---- the first refusal is that of all
 

@@ -16,6 +16,7 @@ use Rattle.excellon.specs.declared.file.DrillKind.TheVariants as drills
 use Rattle.excellon.specs.declared.file.DrillError.{DrillError}
 use Rattle.excellon.specs.Drill.{drill_of}
 use Rattle.job_file.specs.declared.job.Job.{Job}
+use Rattle.job_file.proofs.FitLaws.{step}
 use Rattle.endings.specs.declared.status.Status.{Status}
 use Rattle.mill_inputs.specs.Accepted.{Accepts, Inputs, IsDrillOf, refused_as, painted_or_refused, image, image_if, mirrored, drill_refused, drilled_or_refused, drilled, drilled_if, contents_of}
 use Rattle.mill_inputs.proofs.StepLaws.{IsOfBytes, if_err_then}
@@ -76,11 +77,6 @@ contents_refused job raw =
     if_err_then IsOfBytes (image_if roles.Outline raw.outline) _ (image_refused roles.Outline raw.outline) (λ outline. tt))))
 
 -- ---- what there is
-
--- a step that gave something
-pub step : {A B : Type 0} (r : Result A Status) (f : A → Result B Status) (y : B) → (r >>= f) ≡ Ok y → (x : A) × (r ≡ Ok x) × (f x ≡ Ok y)
-step (Ok x) f y e = (x, refl, e)
-step (Err status) f y e = absurd (cc)
 
 pub ok_is : {A : Type 0} (a b : A) → ◌≡◌ {A = Result A Status} (Ok a) (Ok b) → a ≡ b
 ok_is a b e = cc

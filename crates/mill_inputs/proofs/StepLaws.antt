@@ -14,6 +14,7 @@ use Rattle.endings.specs.Lines.{role_name}
 use Rattle.endings.specs.Reads.{Reading, held_in, MayRead, without}
 use Rattle.endings.specs.Answers.{ToldAnd, MakesOf}
 use Rattle.endings.specs.Works.{Refuses}
+use Rattle.endings.proofs.TellLaws.{rose_before}
 use Rattle.endings.proofs.RunLaws.{refuses_weaker}
 
 -- ---- from what one step refuses to what all do
@@ -38,10 +39,6 @@ told_carried : (o : Option Files) (P Q : Reading → Type 0) → ((given : Readi
 told_carried None P Q carry told = absurd told
 told_carried (Some files) P Q carry told = let w = carry (held_in files) refl told in subst Q w.1 w.2
 
--- a count that rose from a later one rose from an earlier one
-rose_from : (n a b c : ℕ) → a ≤ b → RoseBy n b c → RoseBy n a c
-rose_from n a b c low rose = omega arith
-
 pub refuses_onto : (R Q : Reading → Status → Type 0) (status : Status) (a b c : ShelfState) → OnlyReads a b → Carries a.files R Q → Refuses R status b c → Refuses Q status a c
 refuses_onto R Q Done a b c keeps carries r = absurd r
 refuses_onto R Q (WriteFault role) a b c keeps carries r = absurd r
@@ -58,11 +55,11 @@ refuses_onto R Q (Watch watcher at) a b c keeps carries r = carried a.files b.fi
 refuses_onto R Q (Limit hit) a b c keeps carries r = carried a.files b.files (λ g. R g (Limit hit)) (λ g. Q g (Limit hit)) keeps.files (λ g may. carries.answer g may (Limit hit)) r
 refuses_onto R Q (TooLong role) a b c keeps carries r = (
   carried a.files b.files (λ g. R g (TooLong role)) (λ g. Q g (TooLong role)) keeps.files (λ g may. carries.answer g may (TooLong role)) r.0,
-  λ none. rose_from (most_bytes + 1) a.taken b.taken c.taken keeps.taken (r.1 (subst (λ o. IsNone o) (sym keeps.files) none)),
+  λ none. rose_before (most_bytes + 1) a.taken b.taken c.taken keeps.taken (r.1 (subst (λ o. IsNone o) (sym keeps.files) none)),
 )
 refuses_onto R Q (ReadFault role) a b c keeps carries (inl r) =
     let w = carries.fault r.1 (subst (λ o. MayRead o r.1) keeps.files r.2) role r.3 in
-    inl (rose_from 1 a.read_faults b.read_faults c.read_faults keeps.read_faults r.0, w.0, w.1, w.2)
+    inl (rose_before 1 a.read_faults b.read_faults c.read_faults keeps.read_faults r.0, w.0, w.1, w.2)
 refuses_onto R Q (ReadFault role) a b c keeps carries (inr told) =
     inr (told_carried a.files (λ g. R g (ReadFault role)) (λ g. Q g (ReadFault role)) (λ g may. carries.answer g may (ReadFault role)) (subst (λ o. ToldAnd o (λ files. R (held_in files) (ReadFault role))) keeps.files told))
 

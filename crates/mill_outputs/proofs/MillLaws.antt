@@ -18,11 +18,12 @@ use Rattle.endings.specs.Works.{Refuses, Works}
 use Rattle.endings.proofs.RunLaws.{PutsOk, all_told, given_by, from_told_and, refuses_weaker, works_refused}
 use Rattle.mill_inputs.specs.Words.{IsExactUsage}
 use Rattle.mill_inputs.specs.Accepted.{Accepts, accepted}
+use Rattle.mill_inputs.proofs.ContentLaws.{ok_is}
 use Rattle.mill_inputs.proofs.AcceptLaws.{accepted_not_done}
 use Rattle.mill_outputs.specs.declared.plans.Plans.{Plans}
 use Rattle.mill_outputs.specs.Planned.{ArePlanned}
 use Rattle.mill_outputs.specs.Mill.{files_of, Milled, Answered, ending_of, Ends, AreFilesOf}
-use Rattle.mill_outputs.proofs.PlanLaws.{ok_is, IsPlanRefusal, planned_apart, planned_refusal, planned_alike}
+use Rattle.mill_outputs.proofs.PlanLaws.{IsPlanRefusal, planned_apart, planned_refusal, planned_alike}
 use Rattle.mill_outputs.proofs.FileLaws.{same_writes, plans_not_lines}
 
 -- ---- the three endings

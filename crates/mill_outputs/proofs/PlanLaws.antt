@@ -19,6 +19,7 @@ use Rattle.endings.specs.declared.status.Status.{Status}
 use Rattle.endings.specs.declared.status.Status.TheVariants.{Outline, Limit, Memory}
 use Rattle.endings.specs.Steps.{Is, Then}
 use Rattle.mill_inputs.specs.Accepted.{Accepts}
+use Rattle.mill_inputs.proofs.ContentLaws.{ok_is}
 use Rattle.mill_outputs.specs.declared.plans.Plans.{Plans}
 use Rattle.mill_outputs.specs.Planned.{Passes, IsSide, IfGiven, IsDrill, outline_refused, IsOutline, ArePlanned, IsOneRefusal}
 
@@ -35,9 +36,6 @@ err_as : {A B : Type 0} (s t : Status) → ◌≡◌ {A = Result A Status} (Err 
 err_as {B = B} s t e =
     let same : s ≡ t = cc in
     ap (λ s. let r : Result B Status = Err s in r) same
-
-pub ok_is : {A : Type 0} (a b : A) → ◌≡◌ {A = Result A Status} (Ok a) (Ok b) → a ≡ b
-ok_is a b e = cc
 
 -- ---- what may be there
 

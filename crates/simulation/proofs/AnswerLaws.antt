@@ -3,6 +3,7 @@ use Rattle.std.proofs.Common.{◌≡◌, ◌⊎◌, refl, inl, inr, ℕ, ◌+◌
 use Rattle.std.specs.Prelude.{nat_lt, not, is_none, ◌&&◌, ◌==◌}
 use Rattle.std.specs.List.{position_from, filter_map, cons_option}
 use Rattle.std.specs.Str.Lines.{lines}
+use Rattle.std.proofs.lemmas.Bool.{le-ltb, ltb-false}
 use Rattle.std.proofs.lemmas.List.{append-nil}
 use Rattle.std.proofs.lemmas.Grind.{common_steps}
 use Rattle.text_cut.specs.Spaces.{trimmed}
@@ -19,12 +20,6 @@ use Rattle.rs274_sim.specs.Reading.{LineFault, BadNumber}
 use Rattle.simulation.specs.Answers.{SpellsAnswer, SpellAnswers, within_reach, answer_of, is_wrong, unless_wrong, answers_from, answers_of, AnswersLaw}
 
 -- ---- one line
-
-not_below : (n m : ℕ) → m ≤ n → nat_lt n m ≡ false
-not_below n m h = grind (arith, common_steps)
-
-from_not_below : (n m : ℕ) → nat_lt n m ≡ false → m ≤ n
-from_not_below n m e = grind (arith, common_steps, e)
 
 -- what stands where a line is an answer
 some_is : {A : Type 0} (x y : A) → ◌≡◌ {A = Option A} (Some x) (Some y) → x ≡ y
@@ -48,8 +43,8 @@ answer_read text v h =
     let d = h.decimal in
     ap (λ t. within_reach (read_at 6 t)) h.spelled
     ∙ ap (λ o. within_reach ((a_number o >>= not_long) >>= (λ x. not_fine 6 x >>= (λ y. Ok (value_at 6 y))))) ((spelled_law (decimal_text d) d).1 (h.parts, refl))
-    ∙ ap (λ b. within_reach (cond b (Err TooLong) (Ok d) >>= (λ x. not_fine 6 x >>= (λ y. Ok (value_at 6 y))))) (not_below 18 (length d.whole) h.short)
-    ∙ ap (λ b. within_reach (cond b (Err (TooFine (decimals_used (fraction_of d)))) (Ok d) >>= (λ y. Ok (value_at 6 y)))) (not_below 6 (decimals_used (fraction_of d)) ((used_law 6 d).0 h.fine))
+    ∙ ap (λ b. within_reach (cond b (Err TooLong) (Ok d) >>= (λ x. not_fine 6 x >>= (λ y. Ok (value_at 6 y))))) (le-ltb 18 (length d.whole) h.short)
+    ∙ ap (λ b. within_reach (cond b (Err (TooFine (decimals_used (fraction_of d)))) (Ok d) >>= (λ y. Ok (value_at 6 y)))) (le-ltb 6 (decimals_used (fraction_of d)) ((used_law 6 d).0 h.fine))
     ∙ ap (λ w. cond (is_coordinate w) (Some w) None) (sym h.value)
     ∙ ap (λ b. cond b (Some v) None) (of_coordinate v h.reach)
 
@@ -68,8 +63,8 @@ answer_spelled text v e = by_decimal (decimal_of text) refl e
           decimal = d;
           parts = spelled.0;
           spelled = spelled.1;
-          short = from_not_below 18 (length d.whole) long;
-          fine = (used_law 6 d).1 (from_not_below 6 (decimals_used (fraction_of d)) fine);
+          short = ltb-false 18 (length d.whole) long;
+          fine = (used_law 6 d).1 (ltb-false 6 (decimals_used (fraction_of d)) fine);
           value = sym same;
           reach = to_coordinate v (subst (λ w. is_coordinate w ≡ true) same in_reach);
         }

@@ -17,6 +17,7 @@ use Rattle.rs274_sim.specs.Reading.{LineFault, program_of}
 use Rattle.ngc_reader.specs.declared.error.NgcKind.{NgcKind}
 use Rattle.ngc_reader.specs.declared.error.NgcKind.TheVariants as kinds
 use Rattle.ngc_reader.specs.Gives.{FailsAt}
+use Rattle.rs274_sim.proofs.FoundLaws.{not_ok}
 use Rattle.endings.specs.declared.status.Status.{Status}
 use Rattle.endings.specs.declared.status.Status.TheVariants.{Done, Usage, Job, Gerber, Drill, Outline, TooLong, Limit, ReadFault, WriteFault, Ngc, Watch, Memory}
 use Rattle.endings.specs.Answers.{usage, MakesOf}
@@ -30,7 +31,8 @@ use Rattle.simulation.specs.declared.sources.Sources.{Sources as SourcesStruct}
 use Rattle.simulation.specs.Words.{Named, words_of, IsExactUsage}
 use Rattle.simulation.specs.Answers.{answers_of}
 use Rattle.simulation.specs.Simulated.{Sources, sources_of, sources_in, read_as, refused_as, stopped_as, run_to, moves_in, told_of, told_as, run_lines, verdict_of, IsPatrolled, ending_of, outcome_of, simulated}
-use Rattle.simulation.proofs.SourceLaws.{some_reading, sources_not_usage}
+use Rattle.endings.proofs.ReadingLaws.{some_reading}
+use Rattle.simulation.proofs.SourceLaws.{sources_not_usage}
 
 -- ---- refusals of lines
 
@@ -117,15 +119,12 @@ IsOfLine status = ⊥
 err_is : {A : Type 0} (s t : Status) → ◌≡◌ {A = Result A Status} (Err s) (Err t) → s ≡ t
 err_is s t e = cc
 
-not_err : {A : Type 0} (x : A) (t : Status) → ◌≡◌ {A = Result A Status} (Ok x) (Err t) → ⊥
-not_err x t e = cc
-
 pub outcome_of_line : (limits : List Limits) (s : Sources) (status : Status) → outcome_of limits s ≡ Err status → IsOfLine status
 unfolding moves_in
 outcome_of_line limits s status e = by_lines (program_of s.program) e
   where
     by_run : (r : Result (List Move) (SimFault × ℕ)) → (run_to r >>= (λ moves. Ok (ending_of limits moves))) ≡ Err status → IsOfLine status
-    by_run (Ok moves) e = absurd (not_err (ending_of limits moves) status e)
+    by_run (Ok moves) e = absurd (not_ok status (ending_of limits moves) (sym e))
     by_run (Err stop) e = subst IsOfLine (err_is _ status e) tt
 
     by_answers : (lines : List Line) (r : Result (List ℤ) (LineFault × ℕ)) → ((read_as roles.Probes r >>= (λ answers. run_to (run_of answers lines))) >>= (λ moves. Ok (ending_of limits moves))) ≡ Err status → IsOfLine status

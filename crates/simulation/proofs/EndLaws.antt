@@ -42,10 +42,6 @@ simulated_ok limits words given e h =
     let run = bind_ok (moves_in read.0) (λ moves. Ok (ending_of limits moves)) e read.2 in
     (run.0, sym (same_ok (ending_of limits run.0) e run.2))
 
--- no read leads from a shelf to itself
-pub only_same : (s : ShelfState) → OnlyReads s s
-only_same s = record { files = refl; write_faults = refl; writes = refl; read_faults = omega arith; taken = omega arith }
-
 -- a run that came to its end
 works_alone : (limits : List Limits) (words : List (List ℕ)) (s : Simulation) (before now : ShelfState) → OnlyReads before now → Gives told_of before now (simulated limits words) (Ok s)
     → WorksAlone (SimulationEnds limits words) (string_bytes s.lines) s.status before now

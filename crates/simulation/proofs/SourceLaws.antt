@@ -18,35 +18,13 @@ use Rattle.endings.specs.Lines.{role_name}
 use Rattle.endings.specs.Reads.{Reading, held_in, MayRead, without, accepted_bytes, input}
 use Rattle.endings.specs.Answers.{IfTold, ToldAnd, IsInput}
 use Rattle.endings.specs.Works.{Gives}
+use Rattle.endings.proofs.TellLaws.{rose_before}
+use Rattle.endings.proofs.ReadingLaws.{some_reading, short_accepted, long_refused, input_given, long_given, long_taken}
 use Rattle.simulation.specs.declared.sources.Sources.{Sources as SourcesStruct}
 use Rattle.simulation.specs.Words.{Named}
 use Rattle.simulation.specs.Simulated.{Sources, probe_bytes, IsProbeBytes, sources_of, sources_in}
 
 -- ---- inputs
-
--- reads that may be, on every shelf
-pub some_reading : (o : Option Files) → (given : Reading) × MayRead o given
-some_reading None = ((λ role name. None), tt)
-some_reading (Some files) = (held_in files, refl)
-
-not_longer : (n most : ℕ) → n ≤ most → nat_lt most n ≡ false
-not_longer n most few = le-ltb most n few
-
-longer : (n : ℕ) → nat_lt n (length {A = ℕ} (replicate (suc n) 0)) ≡ true
-longer n = rw (length-replicate {A = ℕ} (suc n) 0) (lt-ltb n (suc n) (omega arith))
-
-some_long : (n : ℕ) → (bytes : List ℕ) × (nat_lt n (length bytes) ≡ true)
-some_long n = (replicate (suc n) 0, longer n)
-
-short_accepted : (role : Role) (bytes : List ℕ) → length bytes ≤ most_bytes → accepted_bytes role (Some bytes) ≡ Ok bytes
-short_accepted role bytes few = ap (λ long. cond long (Err (TooLong role)) (Ok bytes)) (not_longer (length bytes) most_bytes few)
-
-long_refused : (role : Role) → (bytes : List ℕ) × (accepted_bytes role (Some bytes) ≡ Err (TooLong role))
-long_refused role = ((some_long most_bytes).0, ap (λ long. cond long (Err (TooLong role)) (Ok (some_long most_bytes).0)) (some_long most_bytes).1)
-
--- counts behind a read
-rose_by_later : (n a b c : ℕ) → a ≤ b → RoseBy n b c → RoseBy n a c
-rose_by_later n a b c more rose = grind (arith, common_steps)
 
 -- an input that is read behind another one
 input_later : (role : Role) (name : List ℕ) (before mid now : ShelfState) (r : Result (Vec ℕ Global) Status) → OnlyReads before mid → IsInput role name mid now r → IsInput role name before now r
@@ -56,13 +34,13 @@ input_later role name before mid now (Err (ReadFault r)) keeps h = (h.0, by_caus
   where
     by_cause : Rose mid.read_faults now.read_faults ⊎ ToldAnd mid.files (λ files. input role name (held_in files) ≡ Err (ReadFault role))
         → Rose before.read_faults now.read_faults ⊎ ToldAnd before.files (λ files. input role name (held_in files) ≡ Err (ReadFault role))
-    by_cause (inl rose) = inl (rose_by_later 1 before.read_faults mid.read_faults now.read_faults keeps.read_faults rose)
+    by_cause (inl rose) = inl (rose_before 1 before.read_faults mid.read_faults now.read_faults keeps.read_faults rose)
     by_cause (inr told) = inr (subst (λ o. ToldAnd o (λ files. input role name (held_in files) ≡ Err (ReadFault role))) keeps.files told)
 input_later role name before mid now (Err (TooLong r)) keeps h = (h.0, by_cause h.1)
   where
     by_cause : (IsNone mid.files × RoseBy (most_bytes + 1) mid.taken now.taken) ⊎ ToldAnd mid.files (λ files. input role name (held_in files) ≡ Err (TooLong role))
         → (IsNone before.files × RoseBy (most_bytes + 1) before.taken now.taken) ⊎ ToldAnd before.files (λ files. input role name (held_in files) ≡ Err (TooLong role))
-    by_cause (inl untold) = inl (subst IsNone keeps.files untold.0, rose_by_later (most_bytes + 1) before.taken mid.taken now.taken keeps.taken untold.1)
+    by_cause (inl untold) = inl (subst IsNone keeps.files untold.0, rose_before (most_bytes + 1) before.taken mid.taken now.taken keeps.taken untold.1)
     by_cause (inr told) = inr (subst (λ o. ToldAnd o (λ files. input role name (held_in files) ≡ Err (TooLong role))) keeps.files told)
 input_later role name before mid now (Err Done) keeps h = absurd h
 input_later role name before mid now (Err (Usage word)) keeps h = absurd h
@@ -74,24 +52,6 @@ input_later role name before mid now (Err (Limit hit)) keeps h = absurd h
 input_later role name before mid now (Err (WriteFault r)) keeps h = absurd h
 input_later role name before mid now (Err (Ngc r fault line)) keeps h = absurd h
 input_later role name before mid now (Err (Watch watcher at)) keeps h = absurd h
-
--- reads that give these bytes to one role
-given_one : (o : Option Files) (role : Role) (name bytes : List ℕ) → length bytes ≤ most_bytes → IfTold o (λ files. input role name (held_in files) ≡ Ok bytes)
-    → (given : Reading) × MayRead o given × (input role name given ≡ Ok bytes)
-given_one None role name bytes few told = ((λ r n. Some bytes), tt, short_accepted role bytes few)
-given_one (Some files) role name bytes few told = (held_in files, refl, told)
-
--- reads that give one role too many bytes
-given_long : (o : Option Files) (role : Role) (name : List ℕ) (P : Type 0) → ((IsNone o × P) ⊎ ToldAnd o (λ files. input role name (held_in files) ≡ Err (TooLong role)))
-    → (given : Reading) × MayRead o given × (input role name given ≡ Err (TooLong role))
-given_long None role name P long = ((λ r n. Some (long_refused role).0), tt, (long_refused role).1)
-given_long (Some files) role name P (inl untold) = absurd (search (rules, untold.0))
-given_long (Some files) role name P (inr told) = (held_in files, refl, told)
-
-long_taken : (o : Option Files) (role : Role) (name : List ℕ) (P : Type 0) → ((IsNone o × P) ⊎ ToldAnd o (λ files. input role name (held_in files) ≡ Err (TooLong role))) → IsNone o → P
-long_taken o role name P (inl untold) none = untold.1
-long_taken None role name P (inr told) none = absurd told
-long_taken (Some files) role name P (inr told) none = absurd (search (rules, none))
 
 -- ---- both files
 
@@ -162,7 +122,7 @@ refuses_program p o (ReadFault role) before now r = subst (λ role. Gives source
 refuses_program p o (TooLong role) before now r = subst (λ role. Gives sources_of before now (sources_in (record { program = p; probes = o })) (Err (TooLong role))) (sym r.0) long
   where
     reading : (given : Reading) × MayRead before.files given × (input roles.Ngc p given ≡ Err (TooLong roles.Ngc))
-    reading = given_long before.files roles.Ngc p (RoseBy (most_bytes + 1) before.taken now.taken) r.1
+    reading = long_given before.files roles.Ngc p (RoseBy (most_bytes + 1) before.taken now.taken) r.1
 
     long : Gives sources_of before now (sources_in (record { program = p; probes = o })) (Err (TooLong roles.Ngc))
     long = ((reading.0, reading.1, program_refused p o reading.0 (TooLong roles.Ngc) reading.2), long_taken before.files roles.Ngc p (RoseBy (most_bytes + 1) before.taken now.taken) r.1)
@@ -189,7 +149,7 @@ probes_out p q program Memory before now few read r = tt
 probes_out p q program (ReadFault role) before now few read r = subst (λ role. Gives sources_of before now (sources_in (record { program = p; probes = Some q })) (Err (ReadFault role))) (sym r.0) (by_cause r.1)
   where
     reading : (given : Reading) × MayRead before.files given × (input roles.Ngc p given ≡ Ok program)
-    reading = given_one before.files roles.Ngc p program few read
+    reading = input_given before.files roles.Ngc p program few read
 
     by_cause : Rose before.read_faults now.read_faults ⊎ ToldAnd before.files (λ files. input roles.Probes q (held_in files) ≡ Err (ReadFault roles.Probes))
         → Gives sources_of before now (sources_in (record { program = p; probes = Some q })) (Err (ReadFault roles.Probes))
@@ -215,7 +175,7 @@ refuses_probes p (Some q) program status before mid now keeps read r = probes_ou
 pub gives_sources : (p : List ℕ) (o : Option (List ℕ)) (s : SourcesStruct) (before mid now : ShelfState) → OnlyReads before mid → IsInput roles.Ngc p before mid (Ok s.program) → IsProbeBytes o mid now (Ok s.probes)
     → Gives sources_of before now (sources_in (record { program = p; probes = o })) (Ok s)
 gives_sources p None s before mid now keeps read r =
-    let reading = given_one before.files roles.Ngc p s.program.items read.0 read.1 in
+    let reading = input_given before.files roles.Ngc p s.program.items read.0 read.1 in
     (reading.0, reading.1, both_read p None reading.0 s.program.items s.probes.items reading.2 (ap Ok (sym r)))
 gives_sources p (Some q) s before mid now keeps read r =
     let later = input_later roles.Probes q before mid now (Ok s.probes) keeps r in

@@ -1,6 +1,6 @@
 use Rattle.std.proofs.Common.{Ok, ap, sym}
 use Rattle.board_base.specs.declared.places.Role.TheVariants as roles
-use Rattle.mill_inputs.proofs.ReadLaws.{some_reading, input_gives}
+use Rattle.endings.proofs.ReadingLaws.{some_reading, input_gives}
 use Rattle.mill_inputs.proofs.inputs.read_job_text.Goals as goal
 
 pub returns-in-Some-clause-gives : goal.returns-in-Some-clause-gives

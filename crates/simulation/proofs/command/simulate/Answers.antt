@@ -1,9 +1,10 @@
 use Rattle.endings.specs.declared.status.Status.TheVariants.{Usage}
 use Rattle.endings.specs.Words.{texts}
+use Rattle.endings.proofs.ReadingLaws.{still}
 use Rattle.simulation.specs.Words.{named_of}
 use Rattle.simulation.specs.Simulated.{sources_of}
 use Rattle.simulation.proofs.CommandLaws.{refuses_words, refuses_sources, gives_outcome, usage_accepted, sources_other, usage_told}
-use Rattle.simulation.proofs.EndLaws.{only_same, works_so, works_result}
+use Rattle.simulation.proofs.EndLaws.{works_so, works_result}
 use Rattle.simulation.proofs.command.simulate.Goals as goal
 
 pub returns-in-Err-clause-gives : goal.returns-in-Err-clause-gives
@@ -33,7 +34,7 @@ returns-clause-usage g c =
 pub returns-in-Err-clause-works : goal.returns-in-Err-clause-works
 returns-in-Err-clause-works g c =
     let s = g.S.Shelf.state c.args.shelf.now in
-    works_so _ (texts c.args.words.now) (Usage c.in-Err.word) s s (only_same s) (refuses_words _ (texts c.args.words.now) c.in-Err.word s s c.in-Err.ensures.value)
+    works_so _ (texts c.args.words.now) (Usage c.in-Err.word) s s (still s) (refuses_words _ (texts c.args.words.now) c.in-Err.word s s c.in-Err.ensures.value)
 
 pub returns-in-Err-read_sources-clause-works : goal.returns-in-Err-read_sources-clause-works
 returns-in-Err-read_sources-clause-works g c =
