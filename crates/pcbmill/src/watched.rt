@@ -1,4 +1,10 @@
 // The watchers over programs that are simulated.
+ghost use Rattle.std.specs.Prelude.{IfOk};
+ghost use Rattle.endings.specs.Run.{Leaves, HasCause, Tells};
+ghost use Rattle.endings.specs.Words.{texts};
+ghost use Rattle.mill_top.specs.Commands.{CommandOf, IsExactUsageOf};
+ghost use Rattle.pcbmill.specs.Watched.{program_bounds};
+
 use board_base::{Shelf, Sink};
 use mill_top::{Status, run};
 use move_watch::{DepthFloor, FeedCap, ToolList, TravelBox, Watcher};
@@ -25,7 +31,14 @@ pub fn run_watched<S: Shelf, K: Sink>(
     words: &Vec<String>,
     shelf: &mut S,
     out: &mut K,
-) -> Result<Status, AllocError> {
+) -> Result<Status, AllocError>
+    ensures leaves { IfOk result (λ status. Leaves (CommandOf program_bounds (texts words.now)) status (S.state shelf.old) (S.state shelf.new)) }
+    ensures lines { IfOk result (λ status. Tells (CommandOf program_bounds (texts words.now)) status
+        (S.state shelf.old) (S.state shelf.new) (K.state out.old) (K.state out.new)) }
+    ensures usage { IfOk result (IsExactUsageOf (texts words.now)) }
+    ensures cause { IfOk result (λ status. HasCause (CommandOf program_bounds (texts words.now)) status
+        (S.state shelf.old) (S.state shelf.new) (K.state out.old) (K.state out.new)) }
+{
     let travel = TravelBox::new(-FARTHEST, -FARTHEST, FARTHEST, FARTHEST);
     let mut watchers: Vec<Box<dyn Watcher>> = Vec::new(alloc);
     watchers.push(Box::new(alloc, travel)?)?;
