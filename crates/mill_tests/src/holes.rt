@@ -6,7 +6,7 @@ use std::alloc::Global;
 use std::test::Fail;
 
 // Two holes, one of them written twice, and a slot that is routed.
-const HOLES_AND_A_ROUTED_SLOT: &str =
+pub const HOLES_AND_A_ROUTED_SLOT: &str =
     "M48\n; DRILL file\nFMAT,2\nMETRIC\nT1C0.800\nT2C1.000\n%\nG90\nG05\nT1\n\
     X2.0Y1.0\nX1.0Y1.0\nX2.0Y1.0\nT2\nG00X5.0Y1.0\nM15\nG01X5.0Y3.0\nM16\nG05\nT0\nM30\n";
 

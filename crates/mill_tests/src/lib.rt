@@ -16,8 +16,12 @@ mod lines;
 #[cfg(test)]
 mod outlines;
 #[cfg(test)]
+mod prefixes;
+#[cfg(test)]
 mod sides;
 #[cfg(test)]
 mod simulations;
+#[cfg(test)]
+mod whole_boards;
 #[cfg(test)]
 mod words;

@@ -1,7 +1,6 @@
 // Boards that are cut out.
-use crate::boards::TWO_DISCS;
 use crate::commands::carried_out;
-use board_base::{MemoryShelf, Point, Role};
+use board_base::{MemoryShelf, Point};
 use mill_top::{LimitHit, OutlineError, Status};
 use std::alloc::Global;
 use std::test::Fail;
@@ -122,62 +121,5 @@ fn a_board_may_pass_a_limit(rt: HostRuntime) -> Result<(), Fail> {
         b"pcbmill: limit: Side 50508\n".as_slice()
     );
     assert!(rt; shelf.get("outline.ngc").is_none());
-    Ok(())
-}
-
-// A shelf with copper, a hole and an outline.
-fn whole_board(alloc: Global) -> Result<MemoryShelf, Fail> {
-    let outline = format!(in alloc; "{SQUARE}M02*\n")?;
-    let mut shelf = shelf_with(alloc, outline.as_bytes())?;
-    shelf.add("a.gbr", TWO_DISCS)?;
-    shelf.add("d.drl", b"M48\nMETRIC\nT1C0.8\n%\nT1\nX1.0Y1.0\nM30\n")?;
-    Ok(shelf)
-}
-
-const WHOLE_BOARD: [&str; 8] = [
-    "mill",
-    "-",
-    "--front=a.gbr",
-    "--drill=d.drl",
-    "--outline=o.gbr",
-    "--pitch=0.2",
-    "--mill-diameters=0.4",
-    "--tolerance=0.14",
-];
-
-#[test]
-fn the_outline_is_written_third(rt: HostRuntime) -> Result<(), Fail> {
-    let alloc = rt.alloc();
-    let mut whole = whole_board(alloc)?;
-    let (status, _) = carried_out(alloc, &WHOLE_BOARD, &mut whole)?;
-    assert_eq!(rt; status, Status::Done);
-
-    let mut shelf = whole_board(alloc)?;
-    shelf.fail_write(3);
-    let (status, lines) = carried_out(alloc, &WHOLE_BOARD, &mut shelf)?;
-    let role = Role::Outline;
-    assert_eq!(rt; status, Status::WriteFault { role });
-    assert_eq!(rt; status.number(), 9);
-    assert_eq!(rt; lines.as_slice(), b"pcbmill: write outline\n".as_slice());
-    for name in ["front.ngc", "drill.ngc"] {
-        assert_eq!(rt;
-            shelf.get(name).ok_or("not written")?,
-            whole.get(name).ok_or("not written")?
-        );
-    }
-    assert!(rt; shelf.get("report.txt").is_none());
-    Ok(())
-}
-
-#[test]
-fn an_outline_that_is_not_read_is_told(rt: HostRuntime) -> Result<(), Fail> {
-    let alloc = rt.alloc();
-    let mut shelf = whole_board(alloc)?;
-    shelf.fail_read(3);
-    let (status, lines) = carried_out(alloc, &WHOLE_BOARD, &mut shelf)?;
-    let role = Role::Outline;
-    assert_eq!(rt; status, Status::ReadFault { role });
-    assert_eq!(rt; lines.as_slice(), b"pcbmill: read outline\n".as_slice());
-    assert!(rt; shelf.get("front.ngc").is_none());
     Ok(())
 }
