@@ -1,5 +1,5 @@
 -- What a traced program does to the copper.
-use Rattle.std.proofs.Common.{◌≡◌, ℕ, ℤ, pos, negsuc, neg_ℤ, ◌+ℤ◌, ◌-ℤ◌, ◌*ℤ◌, ◌≤ℤ◌, ◌<ℤ◌, true, inl, List, [], ◌∷◌, map, unsigned_abs, refl, sym, ap, subst, ◌∙◌, arith}
+use Rattle.std.proofs.Common.{◌≡◌, ℕ, ℤ, pos, negsuc, neg_ℤ, ◌+ℤ◌, ◌-ℤ◌, ◌*ℤ◌, ◌≤ℤ◌, ◌<ℤ◌, true, inl, List, [], ◌∷◌, map, refl, sym, ap, subst, ◌∙◌, arith}
 use Rattle.std.specs.List.{Contains}
 use Rattle.std.specs.Int.{int_div_euclid}
 use Rattle.std.proofs.lemmas.List.Elements.{All-contains}
@@ -13,10 +13,12 @@ use Rattle.board_base.specs.declared.places.Cell.{Cell}
 use Rattle.board_base.specs.declared.places.Move.{Move}
 use Rattle.board_base.specs.Lattice.{IsPitch, IsHalfDiagonal, half_of, middle, centre_of, cell_of, dist2, half_diagonal_of}
 use Rattle.board_base.specs.Near.{near_of}
+use Rattle.board_base.proofs.LatticeLaws.{pitch_positive}
 use Rattle.cell_sets.specs.Contour.{IsAllowed, guard_of, reach_of}
 use Rattle.cell_sets.specs.Passes.{guard_at}
 use Rattle.cell_sets.proofs.Guards.{visited_allowed}
 use Rattle.mill_plan.proofs.GuardLaws.{reach_nonneg}
+use Rattle.mill_plan.proofs.SweptLaws.{quotient_size}
 use Rattle.mill_plan.proofs.JobLaws.{IsMilling}
 use Rattle.plane_geom.specs.NearStep.{length2}
 use Rattle.plane_geom.proofs.NearLaws.{near_step}
@@ -38,7 +40,8 @@ use Rattle.mill_plan.specs.Cutting.{IsCutting, bite_of, guard, kept_by, sweep_of
 use Rattle.mill_plan.specs.Mills.{Mills}
 use Rattle.mill_plan.specs.Cuts.{corner_of, run_along, program_along, AreTraces}
 use Rattle.plane_geom.proofs.Points.{near_point, point_near}
-use Rattle.mill_plan.proofs.PointLaws.{unscaled, same_cell, near_centre, between}
+use Rattle.mill_plan.proofs.UnitLaws.{unscaled, in_units, width_nonneg, width_sum}
+use Rattle.mill_plan.proofs.PointLaws.{same_cell, near_centre, between}
 use Rattle.number_laws.proofs.Squares.{square_within}
 use Rattle.plane_geom.proofs.HalfStep.{on_lattice, near_run, on_run}
 use Rattle.mill_plan.proofs.MoveLaws.{numbered, from_numbered, at_corner, IsOverRun, IsGuarded, deep_step, moves_guarded, moves_there}
@@ -49,7 +52,7 @@ SQ e = mul e e
 -- ---- from the cells of a run to lattice points in the machine's units
 
 -- the centre of a cell some steps on is a lattice point
-lattice_is : (p : ℤ) (x : Cell) (e n : ℤ) (t : ℕ) → scaled (centre_of p (stepped x e n t)) ≡ on_lattice (scaled (centre_of p x)) (p *ℤ nanometre) e n (pos t)
+pub lattice_is : (p : ℤ) (x : Cell) (e n : ℤ) (t : ℕ) → scaled (centre_of p (stepped x e n t)) ≡ on_lattice (scaled (centre_of p x)) (p *ℤ nanometre) e n (pos t)
 unfolding scaled middle
 lattice_is p x e n t = λ i. record { x = axis x.i e i; y = axis x.j n i }
   where
@@ -58,14 +61,14 @@ lattice_is p x e n t = λ i. record { x = axis x.i e i; y = axis x.j n i }
         ring (c ∷ v ∷ p ∷ half_of p ∷ pos t ∷ []) (mul (add (mul (add (var 0) (mul (var 4) (var 1))) (var 2)) (var 3)) (num nanometre))
         (add (mul (add (mul (var 0) (var 2)) (var 3)) (num nanometre)) (mul (var 4) (mul (mul (var 2) (num nanometre)) (var 1)))) refl
 
-unit_square : (v : ℤ) → IsUnit v → (v *ℤ v) ≤ℤ pos 1
+pub unit_square : (v : ℤ) → IsUnit v → (v *ℤ v) ≤ℤ pos 1
 unit_square v u = square_within (pos 1) v (low v u.low) u.high
   where
     low : (v : ℤ) → negsuc 0 ≤ℤ v → neg_ℤ (pos 1) ≤ℤ v
     low v h = omega (arith, ints)
 
 -- the diagonal in the machine's units
-scaled_enough : (p h : ℤ) → (p *ℤ p) ≤ℤ (pos 2 *ℤ (h *ℤ h)) → ((p *ℤ nanometre) *ℤ (p *ℤ nanometre)) ≤ℤ (pos 2 *ℤ ((h *ℤ nanometre) *ℤ (h *ℤ nanometre)))
+pub scaled_enough : (p h : ℤ) → (p *ℤ p) ≤ℤ (pos 2 *ℤ (h *ℤ h)) → ((p *ℤ nanometre) *ℤ (p *ℤ nanometre)) ≤ℤ (pos 2 *ℤ ((h *ℤ nanometre) *ℤ (h *ℤ nanometre)))
 scaled_enough p h enough =
     let a : (nanometre *ℤ nanometre) *ℤ (p *ℤ p) ≡ (p *ℤ nanometre) *ℤ (p *ℤ nanometre) = ring (p ∷ []) (mul (mul (num nanometre) (num nanometre)) (SQ (var 0))) (SQ (mul (var 0) (num nanometre))) refl in
     let b : (nanometre *ℤ nanometre) *ℤ (pos 2 *ℤ (h *ℤ h)) ≡ pos 2 *ℤ ((h *ℤ nanometre) *ℤ (h *ℤ nanometre)) =
@@ -83,9 +86,6 @@ pub record IsNearVisited (job : Job) (walks : List (List Cell)) (q : Point) (r :
 weak : (z : ℤ) → pos 0 <ℤ z → pos 0 ≤ℤ z
 weak z h = omega (arith, ints)
 
-in_units : (z : ℤ) → pos 0 ≤ℤ z → pos 0 ≤ℤ (z *ℤ nanometre)
-in_units z h = omega (arith, ints)
-
 -- what is within r of a move over a run is within r and half a diagonal of a visited centre
 pub near_visited : (job : Job) (walks : List (List Cell)) (move : Move) (q : Point) (r : ℤ) → IsHalfDiagonal job.pitch (half_diagonal_of job.pitch) → pos 0 ≤ℤ r → IsOverRun job walks move → Sweeps move q r
     → IsNearVisited job walks q (r +ℤ half_diagonal_of job.pitch)
@@ -98,19 +98,13 @@ near_visited job walks move q r diagonal low o swept =
     let b_is : scaled (centre_of p o.to) ≡ on_lattice a (p *ℤ nanometre) k.east k.north (pos k.count) = ap (λ (c : Cell). scaled (centre_of p c)) k.ends ∙ lattice_is p o.from k.east k.north k.count in
     let over : near_of (scaled q) a (on_lattice a (p *ℤ nanometre) k.east k.north (pos k.count)) (width_of r) ≡ true =
     subst (λ (b : Point). near_of (scaled q) a b (width_of r) ≡ true) (o.stops ∙ b_is) (subst (λ (x : Point). near_of (scaled q) x (under move.to) (width_of r) ≡ true) o.starts swept) in
-    let found = near_run (p *ℤ nanometre) (h *ℤ nanometre) (width_of r) (scaled q) a k.east k.north k.count (scaled_enough p h diagonal.enough) (in_units h (weak h diagonal.positive)) (wide r low)
+    let found = near_run (p *ℤ nanometre) (h *ℤ nanometre) (width_of r) (scaled q) a k.east k.north k.count (scaled_enough p h diagonal.enough) (in_units h (weak h diagonal.positive)) (width_nonneg r low)
     (unit_square k.east k.unit_east) (unit_square k.north k.unit_north) over in
     let c : Cell = stepped o.from k.east k.north found.at in
     let spot : near_of (scaled q) (scaled (centre_of p c)) (scaled (centre_of p c)) (width_of (r +ℤ h)) ≡ true =
-    subst (λ (d : ℤ). near_of (scaled q) (scaled (centre_of p c)) (scaled (centre_of p c)) d ≡ true) (widths r h)
+    subst (λ (d : ℤ). near_of (scaled q) (scaled (centre_of p c)) (scaled (centre_of p c)) d ≡ true) (width_sum r h)
     (subst (λ (x : Point). near_of (scaled q) x x (width_of r +ℤ pos 2 *ℤ (h *ℤ nanometre)) ≡ true) (sym (lattice_is p o.from k.east k.north found.at)) found.near) in
-    record { walk = o.walk; there = o.there; cell = c; inside = k.through found.at found.early; near = unscaled q (centre_of p c) (r +ℤ h) spot }
-  where
-    wide : (r : ℤ) → pos 0 ≤ℤ r → pos 0 ≤ℤ ((pos 2 *ℤ r) *ℤ nanometre)
-    wide r h = omega (arith, ints)
-
-    widths : (r h : ℤ) → (pos 2 *ℤ r) *ℤ nanometre +ℤ pos 2 *ℤ (h *ℤ nanometre) ≡ (pos 2 *ℤ (r +ℤ h)) *ℤ nanometre
-    widths r h = ring (r ∷ h ∷ []) (add (mul (mul (num (pos 2)) (var 0)) (num nanometre)) (mul (num (pos 2)) (mul (var 1) (num nanometre)))) (mul (mul (num (pos 2)) (add (var 0) (var 1))) (num nanometre)) refl
+    record { walk = o.walk; there = o.there; cell = c; inside = k.through found.at found.early; near = unscaled q (centre_of p c) (centre_of p c) (pos 2 *ℤ (r +ℤ h)) spot }
 
 -- a low move of the run goes over cells of a walk
 low_over : (job : Job) (walks : List (List Cell)) (moves : List Move) (move : Move) → IsMilling job → CornerLaw → ((w : List Cell) → Contains walks w → IsConnected w) → map unnumbered moves ≡ moves_of (program_along job walks)
@@ -122,35 +116,39 @@ low_over job walks moves move ok law connected e there low =
 
 -- ---- the guard
 
--- a point within b and half a diagonal of a centre lies in a cell that isn't farther than the guard
-apart : (p h b g : ℤ) (a : Cell) (q : Point) → IsPitch p → IsHalfDiagonal p h → pos 0 ≤ℤ b
-    → g ≡ int_div_euclid ((b +ℤ pos 2 *ℤ h) *ℤ (b +ℤ pos 2 *ℤ h)) (p *ℤ p) → g <ℤ dist2 a (cell_of p q) → near_of q (centre_of p a) (centre_of p a) (pos 2 *ℤ (b +ℤ h)) ≡ true → ⊥
-apart p h b g a q pitch diagonal some guard far near =
-    let k : Cell = cell_of p q in
+-- centres that are within b and two half diagonals of one another aren't farther apart than the guard
+pub off_centre : (p h b g : ℤ) (a k : Cell) → pos 0 <ℤ p → g ≡ int_div_euclid ((b +ℤ pos 2 *ℤ h) *ℤ (b +ℤ pos 2 *ℤ h)) (p *ℤ p) → g <ℤ dist2 a k
+    → near_of (centre_of p k) (centre_of p a) (centre_of p a) (pos 2 *ℤ (b +ℤ h) +ℤ pos 2 *ℤ h) ≡ true → ⊥
+off_centre p h b g a k wide guard far near =
     let ca : Point = centre_of p a in
     let ck : Point = centre_of p k in
-    let pp : pos 0 <ℤ (p *ℤ p) = mul_pos p p (wide p pitch.low) (wide p pitch.low) in
-    let reached = near_step q ck ca ca (pos 2 *ℤ (b +ℤ h)) h (twice b h some (weak h diagonal.positive)) (weak h diagonal.positive) (near_centre p h q pitch diagonal) near in
-    let close = near_point ck ca (pos 2 *ℤ (b +ℤ h) +ℤ pos 2 *ℤ h) reached in
+    let close = near_point ck ca (pos 2 *ℤ (b +ℤ h) +ℤ pos 2 *ℤ h) near in
     let squared : (pos 2 *ℤ (b +ℤ h) +ℤ pos 2 *ℤ h) *ℤ (pos 2 *ℤ (b +ℤ h) +ℤ pos 2 *ℤ h) ≡ pos 4 *ℤ ((b +ℤ pos 2 *ℤ h) *ℤ (b +ℤ pos 2 *ℤ h)) =
     ring (b ∷ h ∷ []) (SQ (add (mul (num (pos 2)) (add (var 0) (var 1))) (mul (num (pos 2)) (var 1)))) (mul (num (pos 4)) (SQ (add (var 0) (mul (num (pos 2)) (var 1))))) refl in
-    let above = rounded_high ((b +ℤ pos 2 *ℤ h) *ℤ (b +ℤ pos 2 *ℤ h)) (p *ℤ p) g pp guard in
+    let above = rounded_high ((b +ℤ pos 2 *ℤ h) *ℤ (b +ℤ pos 2 *ℤ h)) (p *ℤ p) g (mul_pos p p wide wide) guard in
     let at_least = mul_le_left (p *ℤ p) (g +ℤ pos 1) (dist2 a k) (square_nonneg p) (next g (dist2 a k) far) in
     let spread : (p *ℤ p) *ℤ (g +ℤ pos 1) ≡ (p *ℤ p) *ℤ g +ℤ p *ℤ p = ring (p ∷ g ∷ []) (mul (SQ (var 0)) (add (var 1) (num (pos 1)))) (add (mul (SQ (var 0)) (var 1)) (SQ (var 0))) refl in
     ends (length2 (ck.x -ℤ ca.x) (ck.y -ℤ ca.y)) ((p *ℤ p) *ℤ dist2 a k) ((pos 2 *ℤ (b +ℤ h) +ℤ pos 2 *ℤ h) *ℤ (pos 2 *ℤ (b +ℤ h) +ℤ pos 2 *ℤ h)) ((b +ℤ pos 2 *ℤ h) *ℤ (b +ℤ pos 2 *ℤ h)) ((p *ℤ p) *ℤ (g +ℤ pos 1)) ((p *ℤ p) *ℤ g +ℤ p *ℤ p)
     (between p k a) squared spread close at_least above
+  where
+    next : (g d : ℤ) → g <ℤ d → (g +ℤ pos 1) ≤ℤ d
+    next g d h = omega (arith, ints)
+
+    ends : (l m s t u v : ℤ) → l ≡ m → s ≡ pos 4 *ℤ t → u ≡ v → (pos 4 *ℤ l) ≤ℤ s → u ≤ℤ m → t <ℤ v → ⊥
+    ends l m s t u v e f g a b c = omega (arith, ints)
+
+-- a point within b and half a diagonal of a centre lies in a cell that isn't farther than the guard
+apart : (p h b g : ℤ) (a : Cell) (q : Point) → IsPitch p → IsHalfDiagonal p h → pos 0 ≤ℤ b
+    → g ≡ int_div_euclid ((b +ℤ pos 2 *ℤ h) *ℤ (b +ℤ pos 2 *ℤ h)) (p *ℤ p) → g <ℤ dist2 a (cell_of p q) → near_of q (centre_of p a) (centre_of p a) (pos 2 *ℤ (b +ℤ h)) ≡ true → ⊥
+apart p h b g a q pitch diagonal some guard far near =
+    off_centre p h b g a (cell_of p q) (wide p pitch.low) guard far
+    (near_step q (centre_of p (cell_of p q)) (centre_of p a) (centre_of p a) (pos 2 *ℤ (b +ℤ h)) h (twice b h some (weak h diagonal.positive)) (weak h diagonal.positive) (near_centre p h q pitch diagonal) near)
   where
     wide : (p : ℤ) → pos 250 ≤ℤ p → pos 0 <ℤ p
     wide p h = omega (arith, ints)
 
     twice : (b h : ℤ) → pos 0 ≤ℤ b → pos 0 ≤ℤ h → pos 0 ≤ℤ (pos 2 *ℤ (b +ℤ h))
     twice b h k l = omega (arith, ints)
-
-    next : (g d : ℤ) → g <ℤ d → (g +ℤ pos 1) ≤ℤ d
-    next g d h = omega (arith, ints)
-
-    ends : (l m s t u v : ℤ) → l ≡ m → s ≡ pos 4 *ℤ t → u ≡ v → (pos 4 *ℤ l) ≤ℤ s → u ≤ℤ m → t <ℤ v → ⊥
-    ends l m s t u v e f g a b c = omega (arith, ints)
 
 pub bite_low : (k : Cutting) → IsCutting k → pos 0 ≤ℤ bite_of k
 unfolding bite_of
@@ -167,7 +165,7 @@ visited_in k painted c ok v = visited_allowed k.pitch (reach_of k.radius k.toler
     some : (p : ℤ) → pos 2000 ≤ℤ p → pos 0 <ℤ p
     some p h = omega (arith, ints)
 
-first_guard : (k : Cutting) → guard k 0 ≡ int_div_euclid ((bite_of k +ℤ pos 2 *ℤ half_diagonal_of k.pitch) *ℤ (bite_of k +ℤ pos 2 *ℤ half_diagonal_of k.pitch)) (k.pitch *ℤ k.pitch)
+pub first_guard : (k : Cutting) → guard k 0 ≡ int_div_euclid ((bite_of k +ℤ pos 2 *ℤ half_diagonal_of k.pitch) *ℤ (bite_of k +ℤ pos 2 *ℤ half_diagonal_of k.pitch)) (k.pitch *ℤ k.pitch)
 unfolding guard guard_at guard_of reach_of bite_of
 first_guard k =
     let r : ℤ = (k.radius -ℤ k.tolerance) +ℤ pos 2 *ℤ half_diagonal_of k.pitch in
@@ -311,38 +309,15 @@ passed_reaches p v move q r low reached passes =
     widths r = ring (r ∷ []) (add (num (pos 0)) (mul (num (pos 2)) (mul (var 0) (num nanometre)))) (mul (mul (num (pos 2)) (var 0)) (num nanometre)) refl
 
 -- the sweep of a cutting isn't past the radius less half a diagonal
-sweep_low : (k : Cutting) → IsCutting k → (pos (sweep_of k) *ℤ (k.pitch *ℤ k.pitch)) ≤ℤ ((k.radius -ℤ half_diagonal_of k.pitch) *ℤ (k.radius -ℤ half_diagonal_of k.pitch))
+pub sweep_low : (k : Cutting) → pos 0 <ℤ k.pitch → (pos (sweep_of k) *ℤ (k.pitch *ℤ k.pitch)) ≤ℤ ((k.radius -ℤ half_diagonal_of k.pitch) *ℤ (k.radius -ℤ half_diagonal_of k.pitch))
 unfolding sweep_of
-sweep_low k ok =
+sweep_low k some =
     let x : ℤ = k.radius -ℤ half_diagonal_of k.pitch in
     let d : ℤ = k.pitch *ℤ k.pitch in
-    let wide : pos 0 <ℤ d = mul_pos k.pitch k.pitch (some k.pitch ok.wide) (some k.pitch ok.wide) in
+    let wide : pos 0 <ℤ d = mul_pos k.pitch k.pitch some some in
     let quotient : ℤ = int_div_euclid (x *ℤ x) d in
-    let low : (d *ℤ quotient) ≤ℤ (x *ℤ x) = rounded_low (x *ℤ x) d quotient wide refl in
-    let high : (x *ℤ x) <ℤ (d *ℤ quotient +ℤ d) = rounded_high (x *ℤ x) d quotient wide refl in
-    let up : pos 0 ≤ℤ quotient = not_below d quotient (x *ℤ x) wide (square_nonneg x) high in
-    subst (λ z. z ≤ℤ (x *ℤ x)) (ring (d ∷ quotient ∷ []) (mul (var 0) (var 1)) (mul (var 1) (var 0)) refl ∙ ap (λ z. z *ℤ d) (size quotient up)) low
-  where
-    some : (p : ℤ) → pos 2000 ≤ℤ p → pos 0 <ℤ p
-    some p h = omega (arith, ints)
-
-    size : (q : ℤ) → pos 0 ≤ℤ q → q ≡ pos (unsigned_abs q)
-    size q h = omega (arith, ints)
-
-    not_below : (d q x : ℤ) → pos 0 <ℤ d → pos 0 ≤ℤ x → x <ℤ (d *ℤ q +ℤ d) → pos 0 ≤ℤ q
-    not_below d q x h k l =
-        by_lt_z q (pos 0)
-        (λ (n : q <ℤ pos 0). absurd (far (d *ℤ (q +ℤ pos 1)) (d *ℤ q) d (d *ℤ pos 0) x (ring (d ∷ q ∷ []) (mul (var 0) (add (var 1) (num (pos 1)))) (add (mul (var 0) (var 1)) (var 0)) refl) (ring (d ∷ []) (mul (var 0) (num (pos 0))) (num (pos 0)) refl) (mul_le_left d (q +ℤ pos 1) (pos 0) (weak d h) (next q n)) k l))
-        (λ (n : pos 0 ≤ℤ q). n)
-      where
-        weak : (d : ℤ) → pos 0 <ℤ d → pos 0 ≤ℤ d
-        weak d h = omega (arith, ints)
-
-        next : (q : ℤ) → q <ℤ pos 0 → (q +ℤ pos 1) ≤ℤ pos 0
-        next q h = omega (arith, ints)
-
-        far : (t a d z x : ℤ) → t ≡ a +ℤ d → z ≡ pos 0 → t ≤ℤ z → pos 0 ≤ℤ x → x <ℤ (a +ℤ d) → ⊥
-        far t a d z x e f h k l = omega (arith, ints)
+    subst (λ z. (z *ℤ d) ≤ℤ (x *ℤ x)) (quotient_size d (x *ℤ x) wide (square_nonneg x))
+    (subst (λ z. z ≤ℤ (x *ℤ x)) (ring (d ∷ quotient ∷ []) (mul (var 0) (var 1)) (mul (var 1) (var 0)) refl) (rounded_low (x *ℤ x) d quotient wide refl))
 
 under_safe : (work safe z : ℤ) → work ≤ℤ neg_ℤ (pos 1000) → pos 100000 ≤ℤ safe → z ≤ℤ (work *ℤ nanometre) → z <ℤ (safe *ℤ nanometre)
 under_safe work safe z h k l = omega (arith, ints)
@@ -372,7 +347,7 @@ mills job painted walks moves ok diagonal cover sweep law traces e = record {
   swept = λ c reached q inside. (
       let v : Cell = reached.from in
       let s = step_over job painted walks moves v law traces e reached.member in
-      let near = sweep nanometre job.pitch (half_diagonal_of job.pitch) (side_cutting job).radius (sweep_of (side_cutting job)) ok.pitch diagonal ok.cutting.fine (sweep_low (side_cutting job) ok.cutting) v c reached.within q inside in
+      let near = sweep nanometre job.pitch (half_diagonal_of job.pitch) (side_cutting job).radius (sweep_of (side_cutting job)) ok.pitch diagonal ok.cutting.fine (sweep_low (side_cutting job) (pitch_positive (side_cutting job).pitch ok.cutting.pitch)) v c reached.within q inside in
       (s.move, s.there, s.deep, passed_reaches job.pitch v s.move q (side_cutting job).radius (radius_low (half_diagonal_of job.pitch) (side_cutting job).radius diagonal.positive ok.cutting.fine) near s.passes));
 }
 

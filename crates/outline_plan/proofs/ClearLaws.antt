@@ -15,7 +15,8 @@ use Rattle.mill_program.specs.Moves.{Spindle, standing, turning_in, rapid, feedi
 use Rattle.outline_bridges.specs.CutLaw.{place_of, IsBelow, AreClear, IsClear}
 use Rattle.mill_program.proofs.StrokeLaws.{not_low, scaled_up}
 use Rattle.mill_plan.proofs.MoveLaws.{numbered}
-use Rattle.outline_plan.proofs.UnitLaws.{unscaled, under_corner, under_over}
+use Rattle.mill_plan.proofs.UnitLaws.{unscaled}
+use Rattle.outline_plan.proofs.UnitLaws.{under_corner, under_over}
 
 smaller : (a b : ℤ) → (a *ℤ nanometre) <ℤ (b *ℤ nanometre) → a <ℤ b
 smaller a b h = omega (arith, ints)

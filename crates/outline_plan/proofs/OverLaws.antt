@@ -21,7 +21,8 @@ use Rattle.mill_plan.proofs.ProgramLaws.{image_of, in_range}
 use Rattle.outline_plan.specs.Job.{levels_count, level_at}
 use Rattle.outline_plan.specs.Cuts.{cut_at, walk_cuts, outline_cuts, outline_run, outline_program}
 use Rattle.outline_plan.specs.CutOut.{IsCutStep}
-use Rattle.outline_plan.proofs.UnitLaws.{upscaled, under_corner}
+use Rattle.mill_plan.proofs.UnitLaws.{upscaled}
+use Rattle.outline_plan.proofs.UnitLaws.{under_corner}
 
 -- ---- the part that goes over a step
 

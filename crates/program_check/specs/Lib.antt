@@ -1,0 +1,9 @@
+pub mod Cutters
+pub mod Deep
+pub mod Hits
+pub mod Marks
+pub mod Sound
+pub mod Planes
+pub mod Scan
+pub mod Whole
+pub mod Own
