@@ -7,33 +7,22 @@ use borrow.Author.Differences.{ints}
 use Rattle.number_laws.proofs.Ring.{var, num, add, mul, ring}
 use Rattle.number_laws.proofs.Order.{mul_le_left, le_trans_ℤ}
 use Rattle.number_laws.proofs.Quotients.{rounded_low, rounded_high}
-use Rattle.number_laws.proofs.Tests.{by_bool}
+use Rattle.number_laws.proofs.Tests.{by_bool, up_to}
 use Rattle.board_base.specs.Lattice.{IsPitch, half_diagonal_of, least}
 use Rattle.board_base.proofs.DiagonalLaws.{least_is}
 use Rattle.cell_sets.specs.Cleared.{stride_of}
 use Rattle.job_file.specs.declared.job.Job.{Job}
 use Rattle.job_file.specs.Checks.{radius_of}
-use Rattle.job_file.specs.Ranges.{IsInRanges, IsEvenLength, IsLength}
+use Rattle.job_file.specs.Ranges.{IsInRanges, IsLength}
 use Rattle.mill_plan.specs.Job.{IsSideJob}
 use Rattle.mill_plan.specs.Cutting.{IsCutting, side_cutting, step_of, is_wide_enough, most_passes, last_of}
 use Rattle.mill_plan.specs.Passes.{IsEnough}
+use Rattle.std.proofs.lemmas.Bool.{lt-leb}
+use Rattle.job_file.proofs.RangeLaws.{is_pitch}
 use Rattle.mill_plan.proofs.GuardLaws.{step_far}
-use Rattle.mill_plan.proofs.StepLaws.{least_most, least_before, IsRadius, IsStepSize, step_size, le_true, le_false, past_of}
+use Rattle.mill_plan.proofs.StepLaws.{least_most, least_before, IsRadius, IsStepSize, step_size, past_of}
 
 -- ---- lengths
-
--- the pitch of a job
-pub job_pitch : (v : ℤ) → IsEvenLength (pos 2) (pos 200) v → IsPitch v
-job_pitch v e = record { even = even v (int_div_euclid v (pos 2)) (int_div_euclid v (pos 2000)) e.even (rounded_low v (pos 2) (int_div_euclid v (pos 2)) (omega (arith, ints)) refl) (rounded_high v (pos 2) (int_div_euclid v (pos 2)) (omega (arith, ints)) refl); low = low v e.low; high = high v e.high }
-  where
-    even : (v d q : ℤ) → v ≡ pos 2000 *ℤ q → (pos 2 *ℤ d) ≤ℤ v → v <ℤ (pos 2 *ℤ d +ℤ pos 2) → v ≡ pos 2 *ℤ d
-    even v d q e h k = omega (arith, ints)
-
-    low : (v : ℤ) → (pos 2 *ℤ pos 1000) ≤ℤ v → pos 250 ≤ℤ v
-    low v h = omega (arith, ints)
-
-    high : (v : ℤ) → v ≤ℤ (pos 200 *ℤ pos 1000) → v ≤ℤ pos 200000
-    high v h = omega (arith, ints)
 
 pub job_radius : (d : ℤ) → IsLength (pos 20) (pos 10000) d → IsRadius (radius_of d)
 unfolding radius_of
@@ -61,7 +50,7 @@ job_step job ok = step_size (radius_of job.mill_diameters) job.milling_overlap (
 pub last_is : (job : Job) (enough n : ℕ) → IsEnough (job.isolation_width -ℤ pos 2 *ℤ radius_of job.mill_diameters) (step_of job) enough → enough ≤ n → job.extra_passes ≤ n → (n ≡ enough) ⊎ (n ≡ job.extra_passes) → pos 0 ≤ℤ step_of job → n ≤ most_passes → n ≡ last_of job
 unfolding last_of
 last_is job enough n is up extra one step_in few =
-    sym (least_is (λ m. nat_le job.extra_passes m && is_wide_enough job m) most_passes n few before (inl (both (le_true job.extra_passes n extra) (wide n (subst (λ z. (job.isolation_width -ℤ pos 2 *ℤ radius_of job.mill_diameters) ≤ℤ z) refl (reaches n up))))))
+    sym (least_is (λ m. nat_le job.extra_passes m && is_wide_enough job m) most_passes n few before (inl (both (up_to job.extra_passes n extra) (wide n (subst (λ z. (job.isolation_width -ℤ pos 2 *ℤ radius_of job.mill_diameters) ≤ℤ z) refl (reaches n up))))))
   where
     both : {a b : Bool} → a ≡ true → b ≡ true → (a && b) ≡ true
     both e f = rw (e, f) refl
@@ -103,7 +92,7 @@ last_is job enough n is up extra one step_in few =
     before : (m : ℕ) → m < n → (nat_le job.extra_passes m && is_wide_enough job m) ≡ false
     before m h = elim one as (λ _. (nat_le job.extra_passes m && is_wide_enough job m) ≡ false) [
       | inl e ↦ second (nat_le job.extra_passes m) (narrow m (subst (λ (k : ℕ). m < k) e h))
-      | inr e ↦ first (nat_le job.extra_passes m) (is_wide_enough job m) (le_false job.extra_passes m (subst (λ (k : ℕ). m < k) e h))
+      | inr e ↦ first (nat_le job.extra_passes m) (is_wide_enough job m) (lt-leb job.extra_passes m (subst (λ (k : ℕ). m < k) e h))
     ]
 
 -- the greater of both is
@@ -184,7 +173,7 @@ side_is job ok =
     let radius = job_radius job.mill_diameters ok.ranges.mill_diameters in
     let step = job_step job ok in
     record {
-      pitch = job_pitch job.pitch ok.ranges.pitch;
+      pitch = is_pitch job.pitch ok.ranges.pitch;
       wide = ok.ranges.pitch.low;
       whole = ok.ranges.pitch.even;
       thin = radius.low;
@@ -227,7 +216,7 @@ milling_is job ok =
     let r : IsInRanges job = ok.ranges in
     record {
       cutting = side_is job ok;
-      pitch = job_pitch job.pitch r.pitch;
+      pitch = is_pitch job.pitch r.pitch;
       deepest = r.zwork.low;
       deep = r.zwork.high;
       safe_low = r.zsafe.low;

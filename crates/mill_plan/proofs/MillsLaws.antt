@@ -17,6 +17,7 @@ use Rattle.board_base.proofs.LatticeLaws.{pitch_positive}
 use Rattle.cell_sets.specs.Contour.{IsAllowed, guard_of, reach_of}
 use Rattle.cell_sets.specs.Passes.{guard_at}
 use Rattle.cell_sets.proofs.Guards.{visited_allowed}
+use Rattle.cell_sets.proofs.Barriers.{refl_le}
 use Rattle.mill_plan.proofs.GuardLaws.{reach_nonneg}
 use Rattle.mill_plan.proofs.SweptLaws.{quotient_size}
 use Rattle.mill_plan.proofs.JobLaws.{IsMilling}
@@ -255,12 +256,9 @@ same_cell_by_half p h a b pitch diagonal near =
 
 -- ---- the steps at the depth
 
-at_depth : (z : ℤ) → z ≤ℤ z
-at_depth z = omega (arith, ints)
-
 deep_deep : (job : Job) (walks : List (List Cell)) (x y : Cell) → IsDeep (job.zwork *ℤ nanometre) (deep_step job (run_along job walks) walks x y)
 unfolding corner_of
-deep_deep job walks x y = (refl, at_depth (job.zwork *ℤ nanometre), at_depth (job.zwork *ℤ nanometre))
+deep_deep job walks x y = (refl, refl_le (job.zwork *ℤ nanometre), refl_le (job.zwork *ℤ nanometre))
 
 -- a cell of a run is passed by the step over it
 deep_on_run : (job : Job) (walks : List (List Cell)) (w : List Cell) (x y c : Cell) → IsOnRun w x y c → Sweeps (deep_step job (run_along job walks) walks x y) (centre_of job.pitch c) (pos 0)
@@ -303,7 +301,7 @@ passed_reaches : (p : ℤ) (v : Cell) (move : Move) (q : Point) (r : ℤ) → po
 unfolding width_of scaled
 passed_reaches p v move q r low reached passes =
     subst (λ (d : ℤ). near_of (scaled q) (under move.from) (under move.to) d ≡ true) (widths r)
-    (near_step (scaled (centre_of p v)) (scaled q) (under move.from) (under move.to) (pos 0) (r *ℤ nanometre) (at_depth (pos 0)) (in_units r low) reached passes)
+    (near_step (scaled (centre_of p v)) (scaled q) (under move.from) (under move.to) (pos 0) (r *ℤ nanometre) (refl_le (pos 0)) (in_units r low) reached passes)
   where
     widths : (r : ℤ) → pos 0 +ℤ pos 2 *ℤ (r *ℤ nanometre) ≡ (pos 2 *ℤ r) *ℤ nanometre
     widths r = ring (r ∷ []) (add (num (pos 0)) (mul (num (pos 2)) (mul (var 0) (num nanometre)))) (mul (mul (num (pos 2)) (var 0)) (num nanometre)) refl
@@ -339,7 +337,7 @@ mills job painted walks moves ok diagonal cover sweep law traces e = record {
         let move : Move = passed.0 in
         let low : IsLow (job.zsafe *ℤ nanometre) move = (passed.2.0, inl (under_safe job.zwork job.zsafe (move.from).z ok.deep ok.safe_low passed.2.1)) in
         let o = low_over job walks moves move ok law traces.connected e passed.1 low in
-        let v = near_visited job walks move (centre_of job.pitch c) (pos 0) diagonal (at_depth (pos 0)) o passed.3 in
+        let v = near_visited job walks move (centre_of job.pitch c) (pos 0) diagonal (refl_le (pos 0)) o passed.3 in
         let same : c ≡ v.cell = same_cell_by_half job.pitch (half_diagonal_of job.pitch) c v.cell ok.pitch diagonal v.near in
         subst (λ (d : Cell). IsVisited (side_cutting job) painted d) (sym same) (traces.each v.walk v.cell v.there v.inside)),
     (λ visited. let s = step_over job painted walks moves c law traces e visited in (s.move, s.there, s.deep, s.passes)),

@@ -1,12 +1,9 @@
 -- Places, kept cells and the border of a side's frame.
-use Rattle.std.proofs.Common.{◌≡◌, ℤ, pos, neg_ℤ, ◌≤ℤ◌, Bool, false, cond, List, slice_index_or, Ok, refl, sym, ap, ◌∙◌, arith}
+use Rattle.std.proofs.Common.{◌≡◌, Bool, false, List, slice_index_or, Ok, sym, ap, ◌∙◌}
 use Rattle.std.proofs.lemmas.Bool.{false≢true}
-use borrow.Author.Differences.{ints}
-use Rattle.number_laws.proofs.Tests.{by_bool}
-use Rattle.board_base.specs.declared.places.Point.{Point}
+use Rattle.number_laws.proofs.Tests.{by_bool, cond_false}
+use Rattle.board_base.proofs.LatticeLaws.{diagonal_nonneg}
 use Rattle.board_base.specs.declared.places.Cell.{Cell}
-use Rattle.board_base.specs.Lattice.{half_diagonal_of}
-use Rattle.board_base.specs.Places.{IsPlace, IsNearPlace}
 use Rattle.cell_grid.specs.declared.frames.Frame.{Frame}
 use Rattle.cell_grid.specs.Place.{InFrame, place_of}
 use Rattle.cell_grid.specs.Cells.{in_frame, in_plane}
@@ -19,36 +16,18 @@ use Rattle.mill_plan.specs.Frame.{IsFrameOf}
 use Rattle.mill_plan.specs.Raster.{IsFarAtEdge}
 use Rattle.mill_plan.proofs.FrameLaws.{kept_roomy, far_at_edge}
 
--- a place is one that may be asked about
-pub near_place : (p : Point) → IsPlace p → IsNearPlace p
-near_place p h = record { x_in = record { low = low p.x h.x.low; high = high p.x h.x.high }; y_in = record { low = low p.y h.y.low; high = high p.y h.y.high } }
-  where
-    low : (v : ℤ) → neg_ℤ (pos 500000000) ≤ℤ v → neg_ℤ (pos 500100000) ≤ℤ v
-    low v h = omega (arith, ints)
-
-    high : (v : ℤ) → v ≤ℤ pos 500000000 → v ≤ℤ pos 500100000
-    high v h = omega (arith, ints)
-
--- half a diagonal isn't negative
-pub half_low : (p : ℤ) → pos 0 ≤ℤ half_diagonal_of p
-unfolding half_diagonal_of
-half_low p = omega (arith, ints)
-
 -- ---- the kept cells
-
-other : {X : Type 0} (t : Bool) (a b : X) → t ≡ false → cond t a b ≡ b
-other t a b e = rw e refl
 
 -- the border of the frame is far from the cells that the image keeps
 pub edge_far : (cutting : Cutting) (painted : List Painted) (f : Frame) → IsFrameOf cutting painted (Ok f) → KeptLaw → IsFarAtEdge (guard cutting cutting.last) (kept_by cutting painted) f
-edge_far cutting painted f framed law = far_at_edge cutting (kept_by cutting painted) f framed.margin framed.margin_is (kept_roomy cutting painted f framed (half_low cutting.pitch) law)
+edge_far cutting painted f framed law = far_at_edge cutting (kept_by cutting painted) f framed.margin framed.margin_is (kept_roomy cutting painted f framed (diagonal_nonneg cutting.pitch) law)
 
 -- the plane has the kept cells, on the whole plane
 pub covers_all : (cutting : Cutting) (painted : List Painted) (f : Frame) (kept : List Bool) → f.pitch ≡ cutting.pitch → IsFarAtEdge (guard cutting cutting.last) (kept_by cutting painted) f
     → ((c : Cell) → InFrame f c → in_plane f kept c ≡ keeps f.pitch painted c) → (c : Cell) → in_plane f kept c ≡ kept_by cutting painted c
 covers_all cutting painted f kept pitch far inside c = by_bool (in_frame f c)
     (λ t. inside c (in_frame_is f c t) ∙ ap (λ p. keeps p painted c) pitch)
-    (λ t. other (in_frame f c) (slice_index_or kept (place_of f c) false) false t ∙ sym (by_bool (kept_by cutting painted c) (λ on. absurd (false≢true (sym t ∙ far.inside c on))) (λ off. off)))
+    (λ t. cond_false (in_frame f c) (slice_index_or kept (place_of f c) false) false t ∙ sym (by_bool (kept_by cutting painted c) (λ on. absurd (false≢true (sym t ∙ far.inside c on))) (λ off. off)))
 
 -- the tests are one
 pub same_test : (s t : Cell → Bool) → ((c : Cell) → s c ≡ t c) → s ≡ t

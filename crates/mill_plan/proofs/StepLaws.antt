@@ -3,7 +3,6 @@ use Rattle.std.proofs.Common.{◌≡◌, ◌⊎◌, inl, inr, ℕ, zero, suc, �
 use Rattle.std.specs.Prelude.{nat_le, int_le, max, unsigned_abs}
 use Rattle.std.specs.Int.{int_div_euclid}
 use Rattle.std.proofs.lemmas.Bool.{false≢true, cases_lt}
-use Rattle.std.proofs.lemmas.Grind.{common_steps}
 use Rattle.std.proofs.lemmas.Nat.{mul-le}
 use borrow.Author.Differences.{ints}
 use Rattle.number_laws.proofs.Ring.{var, num, mul, ring}
@@ -141,12 +140,6 @@ steps_for w s r over wide is =
     any w e = omega (arith, ints)
 
 -- ---- the greater of two
-
-pub le_true : (a b : ℕ) → a ≤ b → nat_le a b ≡ true
-le_true a b h = grind (arith, common_steps)
-
-pub le_false : (a b : ℕ) → b < a → nat_le a b ≡ false
-le_false a b h = grind (arith, common_steps)
 
 pub past_of : (a m : ℕ) → nat_le a m ≡ false → suc m ≤ a
 past_of a m e = by_case (either a m)

@@ -15,7 +15,7 @@ use Rattle.job_file.specs.declared.job.Job.{Job}
 use Rattle.job_file.specs.Checks.{radius_of}
 use Rattle.job_file.specs.Ranges.{IsLength}
 use Rattle.mill_plan.specs.Cutting.{IsCutting, bite_of}
-use Rattle.mill_plan.proofs.JobLaws.{job_pitch}
+use Rattle.job_file.proofs.RangeLaws.{is_pitch}
 use Rattle.outline_bridges.specs.Bridges.{bridges_of}
 use Rattle.outline_plan.specs.Job.{IsOutlineJob, outline_cutting, level_at, bridge_width, listed_bridges, IsDown}
 
@@ -62,7 +62,7 @@ radius_in d l = record { low = low d (int_div_euclid d (pos 2)) l.low up; high =
     high d r h k = omega (arith, ints)
 
 pub outline_pitch : (job : Job) → IsOutlineJob job → IsPitch job.pitch
-outline_pitch job ok = job_pitch job.pitch ok.ranges.pitch
+outline_pitch job ok = is_pitch job.pitch ok.ranges.pitch
 
 -- the cutting of an outline is one
 pub outline_is : (job : Job) → IsOutlineJob job → IsCutting (outline_cutting job)

@@ -3,13 +3,13 @@ use Rattle.std.proofs.lemmas.Int.{to_z-of_z}
 use mir.Syntax.{w64}
 use mir.Val.{SFits, to_z, of_z}
 use Rattle.board_base.specs.Lattice.{IsPitch, half_diagonal_of}
-use Rattle.mill_plan.proofs.JobLaws.{job_pitch}
+use Rattle.job_file.proofs.RangeLaws.{is_pitch}
 use Rattle.mill_plan.proofs.cutting.clearing_stride.Goals as goal
 
 pub stride-requires-clause-pitch : goal.stride-requires-clause-pitch
 stride-requires-clause-pitch c =
     let wide : SFits w64 c.args.job.now.pitch = search rules in
-    subst IsPitch (sym (to_z-of_z w64 c.args.job.now.pitch wide)) (job_pitch c.args.job.now.pitch c.requires.ranges.pitch)
+    subst IsPitch (sym (to_z-of_z w64 c.args.job.now.pitch wide)) (is_pitch c.args.job.now.pitch c.requires.ranges.pitch)
 
 pub stride-requires-clause-wide : goal.stride-requires-clause-wide
 stride-requires-clause-wide c =
