@@ -1,11 +1,7 @@
 // What the definitions come to, worked out by hand.
 ghost use Rattle.std.specs.Prelude.{◌≡◌, ◌<◌, pos, negsuc, IfOk};
-ghost use Rattle.std.specs.List.{All};
 ghost use Rattle.board_base.specs.Places.{IsNearPlace, IsPlace};
 ghost use Rattle.shape_parts.specs.Parts.{IsPart};
-ghost use Rattle.board_base.specs.declared.places.Cell.{Cell};
-ghost use Rattle.board_base.specs.Lattice.{IsPitch, centre_of};
-ghost use Rattle.cell_grid.specs.Place.{IsPlaced, InFrame};
 ghost use Rattle.cell_grid.specs.Grid.{HasRows};
 
 use board_base::{Bounds, Cell, Point};
@@ -212,8 +208,8 @@ fn a_dark_flash_and_then_a_clear_one(rt: HostRuntime) -> Result<(), Fail> {
     Ok(())
 }
 
-// How many cells are kept.
-fn kept(bench: &Workbench) -> u32 {
+/// How many cells are kept.
+pub fn kept(bench: &Workbench) -> u32 {
     let frame = bench.frame();
     let mut n: u32 = 0;
     for y in 0..frame.height {
@@ -345,92 +341,4 @@ fn both_programs_keep_the_same_cells(rt: HostRuntime) {
     ] {
         assert_eq!(rt; counts(rt.alloc(), n), Some((want, want)), "drawing {n}");
     }
-}
-
-// Vertex `k` of a square of 40 mm that has one each 0.002 mm.
-fn vertex(k: u32) -> Point
-    requires { k < 80000 }
-    ensures { IsPlace result }
-{
-    let s = (k % 20000) as i64 * 2000;
-    match k / 20000 {
-        0 => Point { x: s, y: 0 },
-        1 => Point {
-            x: 40_000_000,
-            y: s,
-        },
-        2 => Point {
-            x: 40_000_000 - s,
-            y: 40_000_000,
-        },
-        _ => Point {
-            x: 0,
-            y: 40_000_000 - s,
-        },
-    }
-}
-
-// Its vertices.
-fn border(alloc: Global) -> Result<Vec<Point>, AllocError>
-    ensures { IfOk result (λ v. All IsPlace v.items) }
-{
-    let mut points = Vec::new(alloc);
-    'points: for k in 0..80000 {
-        points.push(vertex(k))?;
-    }
-    Ok(points)
-}
-
-// A flash of it.
-fn fine_square(alloc: Global) -> Result<Vec<Painted>, AllocError> {
-    let points = border(alloc)?;
-    let mut poly = Poly::empty(alloc);
-    let Ok(()) = poly.add_loop(&points) else {
-        return Err(AllocError);
-    };
-    let mut shape = Shape::empty(alloc);
-    shape.push(Part::Area { poly }, true)?;
-    let mut objects = Vec::new(alloc);
-    objects.push(Painted { shape, dark: true })?;
-    Ok(objects)
-}
-
-// The cells of 0.02 mm round it.
-fn fine_frame() -> Frame
-    ensures placed { IsPlaced result }
-    ensures pitch { IsPitch result.pitch }
-    ensures centres { (c : Cell) → InFrame result c → IsNearPlace (centre_of result.pitch c) }
-{
-    Frame {
-        pitch: 20_000,
-        i0: -2,
-        j0: -2,
-        width: 2004,
-        height: 2004,
-    }
-}
-
-// How many cells of a frame are kept of some objects.
-fn kept_over(alloc: Global, frame: Frame, painted: &Vec<Painted>) -> Option<u32>
-    requires placed { IsPlaced frame }
-    requires pitch { IsPitch frame.pitch }
-    requires centres { (c : Cell) → InFrame frame c → IsNearPlace (centre_of frame.pitch c) }
-{
-    match Workbench::reserve(alloc, frame) {
-        Ok(bench) => {
-            let mut bench = bench;
-            cover(&mut bench, painted);
-            Some(kept(&bench))
-        }
-        Err(_) => None,
-    }
-}
-
-#[test]
-fn a_square_of_many_edges_is_covered(rt: HostRuntime) -> Result<(), Fail> {
-    let objects = fine_square(rt.alloc())?;
-    // The columns and rows from -1 to 2000, as each corner touches four cells.
-    let kept = kept_over(rt.alloc(), fine_frame(), &objects);
-    assert_eq!(rt; kept, Some(4_008_004));
-    Ok(())
 }

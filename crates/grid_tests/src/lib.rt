@@ -17,6 +17,8 @@ mod joined;
 #[cfg(test)]
 mod labels;
 #[cfg(test)]
+mod many_edges;
+#[cfg(test)]
 mod places;
 #[cfg(test)]
 mod segments;

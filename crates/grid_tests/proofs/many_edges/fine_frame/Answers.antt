@@ -3,7 +3,7 @@ use borrow.Author.Differences.{ints}
 use Rattle.board_base.specs.Places.{IsNearCoordinate}
 use Rattle.board_base.specs.Lattice.{half_of, middle}
 use Rattle.cell_grid.specs.Place.{IsBetween}
-use Rattle.grid_tests.proofs.covers.fine_frame.Goals as goal
+use Rattle.grid_tests.proofs.many_edges.fine_frame.Goals as goal
 
 near : (i : ℤ) → IsBetween i (negsuc 1) 2004 → IsNearCoordinate (middle (pos 20000) i)
 unfolding middle half_of
