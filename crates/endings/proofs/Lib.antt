@@ -2,3 +2,4 @@ pub mod TellLaws
 pub mod RunLaws
 pub mod AloneLaws
 pub mod ReadingLaws
+pub mod UsageLaws

@@ -1,13 +1,10 @@
 -- Words of commands.
-use Rattle.std.specs.Prelude.{ℕ, ◌-◌, List, map, Option, Some, None, is_some, option_and_then, Result, Ok, Err, codes, Bool, not, ◌&&◌, if◌then◌else◌, slice_get, string_bytes, Vec, String}
-use Rattle.std.specs.declared.alloc.Global.{Global}
+use Rattle.std.specs.Prelude.{◌≡◌, ◌⊎◌, ℕ, ◌-◌, List, length, nat_lt, Option, Some, None, is_some, option_and_then, Result, Ok, Err, codes, Bool, not, ◌&&◌, if◌then◌else◌, slice_get}
 use Rattle.std.specs.Str.{bytes_eq}
 use Rattle.text_cut.specs.Split.{after}
 use Rattle.job_file.specs.Numbers.{is_name, is_printable}
-
--- the bytes of each word
-abbrev pub texts : Vec (String Global) Global → List (List ℕ)
-texts words = map string_bytes words.items
+use Rattle.endings.specs.declared.status.Status.{Status}
+use Rattle.endings.specs.declared.status.Status.TheVariants.{Usage, Memory}
 
 -- what was found, or the number of the word where nothing was
 abbrev pub found : {A : Type 0} → ℕ → Option A → Result A ℕ
@@ -29,3 +26,12 @@ is_dashed word = is_some (after (codes "--") word)
 -- a name of a file that isn't taken for a line of the job
 abbrev pub is_file_word : List ℕ → Bool
 is_file_word word = is_name 200 is_printable word && not (is_dashed word)
+
+-- the words end before this number
+abbrev pub end_before : ℕ → List (List ℕ) → Result (Unit {0}) ℕ
+end_before number words = if nat_lt (length words) number then Ok tt else Err number
+
+-- Usage comes exactly where these words are outside their grammar, unless memory was wanting.
+pub record IsExactUsage {A : Type 0} (read : Result A ℕ) (status : Status) : Type 0 where
+  pub only : (word : ℕ) → status ≡ Usage word → read ≡ Err word
+  pub comes : (word : ℕ) → read ≡ Err word → (status ≡ Usage word) ⊎ (status ≡ Memory)

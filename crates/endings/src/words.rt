@@ -3,7 +3,8 @@ ghost use Rattle.std.specs.Prelude.{◌≡◌, ◌&&◌, length, nat_le, slice_g
 ghost use Rattle.std.specs.List.{list_all};
 ghost use Rattle.std.specs.Option.{option_copied};
 ghost use Rattle.job_file.specs.Numbers.{is_printable as is_printable_in};
-ghost use Rattle.endings.specs.Words.{texts, word, exactly, is_dashed as is_dashed_in, is_file_word as is_file_word_in};
+ghost use Rattle.job_file.specs.Reading.{texts};
+ghost use Rattle.endings.specs.Words.{word, exactly, is_dashed as is_dashed_in, is_file_word as is_file_word_in};
 
 use text_cut::after;
 

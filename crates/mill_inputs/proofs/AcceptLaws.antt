@@ -17,7 +17,8 @@ use Rattle.endings.specs.Reads.{Reading, held_in, MayRead, without, input}
 use Rattle.endings.specs.Answers.{usage, ToldAnd, MakesOf}
 use Rattle.endings.specs.Works.{Refuses, Gives, status_of}
 use Rattle.mill_inputs.specs.declared.acceptance.Accepted.{Accepted as AcceptedStruct}
-use Rattle.mill_inputs.specs.Words.{words_of, IsExactUsage}
+use Rattle.endings.specs.Words.{IsExactUsage}
+use Rattle.mill_inputs.specs.Words.{words_of}
 use Rattle.mill_inputs.specs.Accepted.{Accepts, accepts_of, IsNamed, IsDrillOf, job_bytes, job_refused, job_or_refused, job_in, input_if, Inputs, inputs_of, contents_of, accepted}
 use Rattle.mill_inputs.proofs.StepLaws.{carries_all, refuses_onto, joins, carries_second, from_earlier, IsOfBytes, err_is, made_refuses}
 use Rattle.endings.proofs.ReadingLaws.{some_reading, still}
@@ -176,7 +177,7 @@ refused_as_words words word status before now e = by_status status
     by_status (ReadFault role) (inl r) = inl (is (without role r.1) (ReadFault role) r.3)
     by_status (ReadFault role) (inr t) = inl (told before.files (ReadFault role) t)
 
-pub exact_usage : (words : List (List ℕ)) (before now : ShelfState) (result : Result AcceptedStruct Status) → Gives accepts_of before now (accepted words) result → IsExactUsage words (status_of result)
+pub exact_usage : (words : List (List ℕ)) (before now : ShelfState) (result : Result AcceptedStruct Status) → Gives accepts_of before now (accepted words) result → IsExactUsage (words_of words) (status_of result)
 exact_usage words before now (Ok x) r = record {
   only = λ word is. absurd (cc);
   comes = λ word e. absurd (not_ok (accepts_of x) (Usage word) (accepted words r.0) r.2 (words_refused words r.0 word e));

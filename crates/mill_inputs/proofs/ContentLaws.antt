@@ -4,7 +4,6 @@ use Rattle.std.specs.Prelude.{IfErr, is_some}
 use Rattle.std.specs.Option.{option_map}
 use Rattle.board_base.specs.declared.places.Role.{Role}
 use Rattle.board_base.specs.declared.places.Role.TheVariants as roles
-use Rattle.board_base.specs.Binds.{◌>>=◌}
 use Rattle.shape_parts.specs.declared.shape.Painted.{Painted}
 use Rattle.gerber_image.specs.declared.refusal.GerberKind.{GerberKind}
 use Rattle.gerber_image.specs.declared.refusal.GerberKind.TheVariants as kinds

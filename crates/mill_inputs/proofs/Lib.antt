@@ -1,5 +1,5 @@
 mod WordLaws
-mod StepLaws
+pub mod StepLaws
 mod ReadLaws
 mod InputLaws
 pub mod ContentLaws

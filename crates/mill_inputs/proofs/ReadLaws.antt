@@ -1,22 +1,17 @@
 -- What the reads of `mill` give and refuse.
-use Rattle.std.proofs.Common.{◌≡◌, ◌⊎◌, ℕ, suc, ◌+◌, ◌≤◌, List, length, replicate, Option, Some, None, Result, Ok, Err, Bool, true, false, cond, Vec, Global, inl, inr, refl, sym, ap, subst, rules, arith}
-use Rattle.std.specs.Prelude.{nat_lt, IsNone, IfErr}
-use Rattle.std.proofs.lemmas.Bool.{lt-ltb, le-ltb}
-use Rattle.std.proofs.lemmas.List.{length-replicate}
-use Rattle.std.proofs.lemmas.Slice.Eq.{bytes_eq-Decides}
+use Rattle.std.proofs.Common.{◌≡◌, ℕ, List, length, Option, Some, None, Ok, Err, Bool, true, false, cond, Vec, Global, refl, ap}
+use Rattle.std.specs.Prelude.{nat_lt, IfErr}
 use Rattle.board_base.specs.declared.places.Role.{Role}
 use Rattle.board_base.specs.declared.places.Role.TheVariants as roles
-use Rattle.board_base.specs.Counts.{Rose, RoseBy}
 use Rattle.board_base.specs.Files.{Files}
-use Rattle.board_base.specs.Shelf.{ShelfState, OnlyReads}
+use Rattle.board_base.specs.Shelf.{ShelfState}
 use Rattle.board_base.specs.Binds.{◌>>=◌}
 use Rattle.endings.specs.declared.status.Status.{Status}
-use Rattle.endings.specs.declared.status.Status.TheVariants.{Done, Usage, Job as RefusedJob, Gerber, Drill, Outline, TooLong, Limit, ReadFault, WriteFault, Ngc, Watch, Memory}
+use Rattle.endings.specs.declared.status.Status.TheVariants.{TooLong, ReadFault}
 use Rattle.endings.specs.Limits.{most_bytes}
-use Rattle.endings.specs.Lines.{role_name}
-use Rattle.endings.specs.Reads.{Reading, held_in, MayRead, without, accepted_bytes, input}
-use Rattle.endings.specs.Answers.{IfTold, ToldAnd, IsInput}
-use Rattle.endings.specs.Works.{Refuses, Gives}
+use Rattle.endings.specs.Reads.{Reading, MayRead, accepted_bytes, input}
+use Rattle.endings.specs.Answers.{IsInput}
+use Rattle.endings.specs.Works.{Refuses}
 use Rattle.endings.proofs.ReadingLaws.{some_reading, input_gives, still}
 use Rattle.mill_inputs.specs.Accepted.{job_bytes, input_if}
 use Rattle.mill_inputs.proofs.StepLaws.{carries_all, refuses_onto, if_err_then}

@@ -1,9 +1,8 @@
 -- Steps that read, one after another: what they give and refuse comes of one reading.
-use Rattle.std.proofs.Common.{◌≡◌, ℕ, ◌+◌, ◌≤◌, List, Option, Some, None, Result, Ok, Err, Bool, true, false, cond, inl, inr, refl, sym, ap, ◌∙◌, subst, arith}
+use Rattle.std.proofs.Common.{◌≡◌, ℕ, ◌+◌, List, Option, Some, None, Result, Ok, Err, Bool, true, false, cond, inl, inr, refl, sym, ap, ◌∙◌, subst, arith}
 use Rattle.std.specs.Prelude.{IsNone, IfErr}
 use Rattle.std.specs.Str.{bytes_eq}
 use Rattle.board_base.specs.declared.places.Role.{Role}
-use Rattle.board_base.specs.Counts.{RoseBy}
 use Rattle.board_base.specs.Files.{Files}
 use Rattle.board_base.specs.Shelf.{ShelfState, OnlyReads}
 use Rattle.board_base.specs.Binds.{◌>>=◌}

@@ -1,10 +1,8 @@
 -- The words of `mill`.
-use Rattle.std.specs.Prelude.{◌≡◌, ◌⊎◌, ℕ, ◌+◌, ◌-◌, List, drop, Option, Some, None, Result, Ok, Err, codes, Bool, not, ◌&&◌, if◌then◌else◌, is_some}
+use Rattle.std.specs.Prelude.{ℕ, ◌+◌, ◌-◌, List, drop, Option, Some, None, Result, Ok, Err, codes, Bool, not, ◌&&◌, if◌then◌else◌, is_some}
 use Rattle.std.specs.List.{position}
 use Rattle.std.specs.Str.{bytes_eq}
 use Rattle.text_cut.specs.Split.{halves}
-use Rattle.endings.specs.declared.status.Status.{Status}
-use Rattle.endings.specs.declared.status.Status.TheVariants.{Usage, Memory}
 use Rattle.board_base.specs.Binds.{◌>>=◌}
 use Rattle.endings.specs.Words.{word, exactly, is_dashed, is_file_word}
 
@@ -33,8 +31,3 @@ words_of words = do
   job ← word 2 job_place words
   rest ← job_words 3 words
   Ok job
-
--- Usage comes exactly where the words are outside the grammar, unless memory was wanting.
-pub record IsExactUsage (words : List (List ℕ)) (status : Status) : Type 0 where
-  pub only : (word : ℕ) → status ≡ Usage word → words_of words ≡ Err word
-  pub comes : (word : ℕ) → words_of words ≡ Err word → (status ≡ Usage word) ⊎ (status ≡ Memory)

@@ -6,8 +6,9 @@ ghost use Rattle.job_file.specs.Ranges.{IsInRanges};
 ghost use Rattle.job_file.specs.Together.{GoTogether};
 ghost use Rattle.endings.specs.Answers.{MakesOf};
 ghost use Rattle.endings.specs.Works.{Gives, status_of};
-ghost use Rattle.endings.specs.Words.{texts};
-ghost use Rattle.mill_inputs.specs.Words.{IsExactUsage};
+ghost use Rattle.job_file.specs.Reading.{texts};
+ghost use Rattle.endings.specs.Words.{IsExactUsage};
+ghost use Rattle.mill_inputs.specs.Words.{words_of};
 ghost use Rattle.mill_inputs.specs.Accepted.{accepts_of, accepted, job_refused, job_in, IsNamed, IsDrillOf};
 
 use crate::contents::read_contents;
@@ -77,7 +78,7 @@ pub fn accept<S: Shelf>(
 ) -> Result<Accepted, Status>
     ensures keeps { OnlyReads (S.state shelf.old) (S.state shelf.new) }
     ensures gives { Gives accepts_of (S.state shelf.old) (S.state shelf.new) (accepted (texts words.now)) result }
-    ensures usage { IsExactUsage (texts words.now) (status_of result) }
+    ensures usage { IsExactUsage (words_of (texts words.now)) (status_of result) }
     ensures named { IfOk result (λ x. IsNamed (accepts_of x)) }
     ensures ranges { IfOk result (λ x. IsInRanges x.job) }
     ensures together { IfOk result (λ x. GoTogether None x.job) }

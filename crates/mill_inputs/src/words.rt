@@ -2,7 +2,8 @@
 ghost use Rattle.std.specs.Prelude.{◌≡◌, MatchResult, drop, not, string_bytes};
 ghost use Rattle.std.specs.List.{position};
 ghost use Rattle.std.specs.Option.{option_copied};
-ghost use Rattle.endings.specs.Words.{texts, word};
+ghost use Rattle.job_file.specs.Reading.{texts};
+ghost use Rattle.endings.specs.Words.{word};
 ghost use Rattle.mill_inputs.specs.Words.{is_job_word as is_job_word_in, job_place, job_words, words_of};
 
 use endings::{begins_with, is_dashed, is_file_word, text_at};

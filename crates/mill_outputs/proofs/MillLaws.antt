@@ -16,7 +16,8 @@ use Rattle.endings.specs.Ending.{Ending, refusal}
 use Rattle.endings.specs.Run.{IsAnswer}
 use Rattle.endings.specs.Works.{Refuses, Works}
 use Rattle.endings.proofs.RunLaws.{PutsOk, all_told, given_by, from_told_and, refuses_weaker, works_refused}
-use Rattle.mill_inputs.specs.Words.{IsExactUsage}
+use Rattle.endings.specs.Words.{IsExactUsage}
+use Rattle.mill_inputs.specs.Words.{words_of}
 use Rattle.mill_inputs.specs.Accepted.{Accepts, accepted}
 use Rattle.mill_inputs.proofs.ContentLaws.{ok_is}
 use Rattle.mill_inputs.proofs.AcceptLaws.{accepted_not_done}
@@ -310,7 +311,7 @@ not_usage status word (inr (inr outline)) e = apart outline.0 (sym outline.1 ∙
     apart : (error : OutlineError) → RefusedOutline error ≡ Usage word → ⊥
     apart error e = cc
 
-pub plan_usage : (words : List (List ℕ)) (x : Accepts) (status : Status) → IsExactUsage words Done → (status ≡ Memory) ⊎ ArePlanned x (Err status) → IsExactUsage words status
+pub plan_usage : (words : List (List ℕ)) (x : Accepts) (status : Status) → IsExactUsage (words_of words) Done → (status ≡ Memory) ⊎ ArePlanned x (Err status) → IsExactUsage (words_of words) status
 plan_usage words x status accepted refused = record { only = λ word e. absurd (not_usage status word (kind refused) e); comes = λ word e. absurd (never word (accepted.comes word e)) }
   where
     kind : (status ≡ Memory) ⊎ ArePlanned x (Err status) → (status ≡ Memory) ⊎ IsPlanRefusal status

@@ -28,7 +28,7 @@ use Rattle.mill_outputs.specs.Planned.{Passes, IsSide, IfGiven, IsDrill, outline
 ok_not_err : {A : Type 0} (a : A) (status : Status) → ◌≡◌ {A = Result A Status} (Ok a) (Err status) → ⊥
 ok_not_err a status e = cc
 
-err_not_ok : {A : Type 0} (a : A) (status : Status) → ◌≡◌ {A = Result A Status} (Err status) (Ok a) → ⊥
+pub err_not_ok : {A : Type 0} (a : A) (status : Status) → ◌≡◌ {A = Result A Status} (Err status) (Ok a) → ⊥
 err_not_ok a status e = cc
 
 -- the same refusal, of whatever was to be made
@@ -251,15 +251,15 @@ refused_of Step status (inl memory) = inl memory
 refused_of Step status (inr refused) = inr refused.0
 
 -- a step answers with this refusal and with nothing else
-abbrev IsOnly : {A : Type 0} → (Result A Status → Type 0) → Status → Type 0
+abbrev pub IsOnly : {A : Type 0} → (Result A Status → Type 0) → Status → Type 0
 IsOnly {A = A} Step status = Step (Err status) × ((answer : Result A Status) → Step answer → answer ≡ Err status)
 
-or_memory : {A B : Type 0} (Step : Result A Status → Type 0) (All : Result B Status → Type 0) (status : Status) → (IsOnly Step status → IsOnly All status) → IsOneRefusal Step status → IsOneRefusal All status
+pub or_memory : {A B : Type 0} (Step : Result A Status → Type 0) (All : Result B Status → Type 0) (status : Status) → (IsOnly Step status → IsOnly All status) → IsOneRefusal Step status → IsOneRefusal All status
 or_memory Step All status more (inl memory) = inl memory
 or_memory Step All status more (inr only) = inr (more only)
 
 -- the refusal of a step is that of the steps that it begins
-then_first : {A B : Type 0} (First : Result A Status → Type 0) (Next : A → Result B Status → Type 0) (status : Status) → IsOnly First status → IsOnly (Then First Next) status
+pub then_first : {A B : Type 0} (First : Result A Status → Type 0) (Next : A → Result B Status → Type 0) (status : Status) → IsOnly First status → IsOnly (Then First Next) status
 then_first {B = B} First Next status only = (inl only.0, one)
   where
     one : (answer : Result B Status) → Then First Next answer → answer ≡ Err status

@@ -13,4 +13,5 @@ mod report;
 
 pub use laws::headline_law;
 pub use make::make_files;
+pub use planned::make_plans;
 pub use plans::Plans;

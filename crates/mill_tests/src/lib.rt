@@ -18,6 +18,8 @@ mod outlines;
 #[cfg(test)]
 mod prefixes;
 #[cfg(test)]
+mod samples;
+#[cfg(test)]
 mod sides;
 #[cfg(test)]
 mod simulations;

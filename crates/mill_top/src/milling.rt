@@ -4,8 +4,9 @@ ghost use Rattle.endings.specs.Ending.{Ending};
 ghost use Rattle.endings.specs.Reads.{held_in};
 ghost use Rattle.endings.specs.Run.{Leaves, IsAnswer, Answers, HasCause, Tells};
 ghost use Rattle.endings.specs.Works.{Works};
-ghost use Rattle.endings.specs.Words.{texts};
-ghost use Rattle.mill_inputs.specs.Words.{IsExactUsage};
+ghost use Rattle.job_file.specs.Reading.{texts};
+ghost use Rattle.endings.specs.Words.{IsExactUsage};
+ghost use Rattle.mill_inputs.specs.Words.{words_of};
 ghost use Rattle.mill_outputs.specs.Mill.{Ends};
 
 use board_base::{Shelf, Sink};
@@ -16,7 +17,7 @@ use std::alloc::Global;
 
 // Carries out `mill`, but for its line.
 fn mill<S: Shelf>(alloc: Global, words: &Vec<String>, shelf: &mut S) -> Status
-    ensures usage { IsExactUsage (texts words.now) result }
+    ensures usage { IsExactUsage (words_of (texts words.now)) result }
     ensures works { Works (Ends (texts words.now)) result (S.state shelf.old) (S.state shelf.new) }
     ensures answers { IfTold (S.state shelf.old).files (λ files. (e : Ending) → Ends (texts words.now) (held_in files) e
         → IsAnswer (Ends (texts words.now)) files e result (S.state shelf.old) (S.state shelf.new)) }
@@ -44,7 +45,7 @@ pub fn run_mill<S: Shelf, K: Sink>(
 ) -> Status
     ensures leaves { Leaves (Ends (texts words.now)) result (S.state shelf.old) (S.state shelf.new) }
     ensures lines { Tells (Ends (texts words.now)) result (S.state shelf.old) (S.state shelf.new) (K.state out.old) (K.state out.new) }
-    ensures usage { IsExactUsage (texts words.now) result }
+    ensures usage { IsExactUsage (words_of (texts words.now)) result }
     ensures cause { HasCause (Ends (texts words.now)) result (S.state shelf.old) (S.state shelf.new) (K.state out.old) (K.state out.new) }
     ensures answers { IfTold (S.state shelf.old).files (λ files. Answers (Ends (texts words.now)) files result
         (S.state shelf.old) (S.state shelf.new) (K.state out.old) (K.state out.new)) }

@@ -5,8 +5,9 @@ ghost use Rattle.move_watch.specs.Watch.{IsFresh};
 ghost use Rattle.endings.specs.Answers.{IfTold};
 ghost use Rattle.endings.specs.Run.{Leaves, Answers, HasCause, Tells};
 ghost use Rattle.endings.specs.Works.{Gives, Works, WorksAlone, status_of};
-ghost use Rattle.endings.specs.Words.{texts};
-ghost use Rattle.simulation.specs.Words.{words_of, IsExactUsage};
+ghost use Rattle.job_file.specs.Reading.{texts};
+ghost use Rattle.endings.specs.Words.{IsExactUsage};
+ghost use Rattle.simulation.specs.Words.{words_of};
 ghost use Rattle.simulation.specs.Simulated.{told_of, simulated, SimulationEnds};
 
 use board_base::{Shelf, Sink};

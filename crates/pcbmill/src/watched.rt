@@ -1,7 +1,7 @@
 // The watchers over programs that are simulated.
 ghost use Rattle.std.specs.Prelude.{IfOk};
 ghost use Rattle.endings.specs.Run.{Leaves, HasCause, Tells};
-ghost use Rattle.endings.specs.Words.{texts};
+ghost use Rattle.job_file.specs.Reading.{texts};
 ghost use Rattle.mill_top.specs.Commands.{CommandOf, IsExactUsageOf};
 ghost use Rattle.pcbmill.specs.Watched.{program_bounds};
 

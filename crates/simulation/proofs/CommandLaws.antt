@@ -1,5 +1,5 @@
 -- What the steps of the command make of it.
-use Rattle.std.proofs.Common.{◌≡◌, ℕ, ℤ, List, length, Result, Ok, Err, inl, sym, ap, ◌∙◌, subst}
+use Rattle.std.proofs.Common.{◌≡◌, ℕ, ℤ, List, length, Result, Ok, Err, sym, ap, ◌∙◌, subst}
 use Rattle.board_base.specs.declared.places.Role.{Role}
 use Rattle.board_base.specs.declared.places.Role.TheVariants as roles
 use Rattle.board_base.specs.declared.places.Move.{Move}
@@ -28,7 +28,9 @@ use Rattle.endings.proofs.RunLaws.{refuses_weaker}
 use Rattle.simulation.specs.declared.patrolled.Patrolled.{Patrolled}
 use Rattle.simulation.specs.declared.report.Simulation.{Simulation}
 use Rattle.simulation.specs.declared.sources.Sources.{Sources as SourcesStruct}
-use Rattle.simulation.specs.Words.{Named, words_of, IsExactUsage}
+use Rattle.endings.specs.Words.{IsExactUsage}
+use Rattle.endings.proofs.UsageLaws.{usage_accepted}
+use Rattle.simulation.specs.Words.{Named, words_of}
 use Rattle.simulation.specs.Answers.{answers_of}
 use Rattle.simulation.specs.Simulated.{Sources, sources_of, sources_in, read_as, refused_as, stopped_as, run_to, moves_in, told_of, told_as, run_lines, verdict_of, IsPatrolled, ending_of, outcome_of, simulated}
 use Rattle.endings.proofs.ReadingLaws.{some_reading}
@@ -190,27 +192,6 @@ gives_outcome limits words names s result before now last e read made = by_resul
 
 -- ---- Usage
 
-is_usage : (n word : ℕ) → Usage n ≡ Usage word → n ≡ word
-is_usage n word e = cc
-
-pub usage_refused : (words : List (List ℕ)) (n : ℕ) → words_of words ≡ Err n → IsExactUsage (words_of words) (Usage n)
-usage_refused words n e = record {
-  only = λ word f. e ∙ ap Err (is_usage n word f);
-  comes = λ word f. inl (ap Usage (same n word (sym e ∙ f)));
-}
-  where
-    same : (n word : ℕ) → ◌≡◌ {A = Result Named ℕ} (Err n) (Err word) → n ≡ word
-    same n word e = cc
-
-pub usage_accepted : (words : List (List ℕ)) (names : Named) (status : Status) → words_of words ≡ Ok names → ((word : ℕ) → status ≡ Usage word → ⊥) → IsExactUsage (words_of words) status
-usage_accepted words names status e other = record {
-  only = λ word f. absurd (other word f);
-  comes = λ word f. absurd (apart names word (sym e ∙ f));
-}
-  where
-    apart : (names : Named) (word : ℕ) → ◌≡◌ {A = Result Named ℕ} (Ok names) (Err word) → ⊥
-    apart names word e = cc
-
 -- neither the reading nor what was read is refused by Usage
 pub sources_other : (names : Named) (status : Status) (before now : ShelfState) → Gives sources_of before now (sources_in names) (Err status) → (word : ℕ) → status ≡ Usage word → ⊥
 sources_other names status before now h word is = of_usage (subst (λ s. Gives sources_of before now (sources_in names) (Err s)) is h)
@@ -226,5 +207,5 @@ done_other word e = cc
 
 pub usage_told : (limits : List Limits) (words : List (List ℕ)) (names : Named) (s : Sources) (result : Result Simulation Status) → words_of words ≡ Ok names → MakesOf told_of (outcome_of limits s) result
     → IsExactUsage (words_of words) (status_of result)
-usage_told limits words names s (Ok x) e h = usage_accepted words names Done e done_other
-usage_told limits words names s (Err status) e h = usage_accepted words names status e (outcome_other limits s status h)
+usage_told limits words names s (Ok x) e h = usage_accepted (words_of words) names Done e done_other
+usage_told limits words names s (Err status) e h = usage_accepted (words_of words) names status e (outcome_other limits s status h)

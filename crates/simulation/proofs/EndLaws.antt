@@ -1,5 +1,5 @@
 -- The endings of the command that its steps come to.
-use Rattle.std.proofs.Common.{◌≡◌, ◌≢◌, ℕ, List, [], ◌∷◌, length, Option, Some, None, Result, Ok, Err, inl, inr, refl, sym, ap, ◌∙◌, subst, arith}
+use Rattle.std.proofs.Common.{◌≡◌, ◌≢◌, ℕ, List, [], ◌∷◌, length, Option, Some, None, Result, Ok, Err, inl, inr, refl, sym, ap, ◌∙◌, subst}
 use Rattle.std.specs.Prelude.{string_bytes, MatchResult}
 use Rattle.board_base.specs.declared.places.Move.{Move}
 use Rattle.board_base.specs.Binds.{◌>>=◌}

@@ -1,11 +1,9 @@
 -- The words of `simulate`.
-use Rattle.std.specs.Prelude.{◌≡◌, ◌⊎◌, ℕ, ◌-◌, List, length, Option, Some, None, Result, Ok, Err, codes, nat_lt, if◌then◌else◌, slice_get}
+use Rattle.std.specs.Prelude.{ℕ, ◌-◌, List, Option, Some, None, Result, Ok, codes, if◌then◌else◌, slice_get}
 use Rattle.std.specs.Option.{option_map, option_copied}
-use Rattle.endings.specs.declared.status.Status.{Status}
-use Rattle.endings.specs.declared.status.Status.TheVariants.{Usage, Memory}
 use Rattle.simulation.specs.declared.words.Names.{Names}
 use Rattle.board_base.specs.Binds.{◌>>=◌}
-use Rattle.endings.specs.Words.{found, word, exactly, is_file_word}
+use Rattle.endings.specs.Words.{found, word, exactly, is_file_word, end_before}
 
 -- the name of a file
 abbrev pub file_word : List ℕ → Option (List ℕ)
@@ -19,10 +17,6 @@ if_given number read (Some word) = found number (option_map Some (read word))
 -- what the word with this number stands for, or nothing where the words end before it
 abbrev pub word_if : {A : Type 0} → ℕ → (List ℕ → Option A) → List (List ℕ) → Result (Option A) ℕ
 word_if number read words = if_given number read (slice_get words (number - 1))
-
--- the words end before this number
-abbrev pub end_before : ℕ → List (List ℕ) → Result (Unit {0}) ℕ
-end_before number words = if nat_lt (length words) number then Ok tt else Err number
 
 -- the names of the program's file and of the file with the probe's answers, if there is one
 pub record Named : Type 0 where
@@ -41,8 +35,3 @@ words_of words = do
   probes ← word_if 3 file_word words
   end ← end_before 4 words
   Ok (record { program = program; probes = probes })
-
--- Usage comes exactly where these words are outside their grammar, unless memory was wanting.
-pub record IsExactUsage {A : Type 0} (read : Result A ℕ) (status : Status) : Type 0 where
-  pub only : (word : ℕ) → status ≡ Usage word → read ≡ Err word
-  pub comes : (word : ℕ) → read ≡ Err word → (status ≡ Usage word) ⊎ (status ≡ Memory)

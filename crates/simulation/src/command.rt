@@ -6,8 +6,9 @@ ghost use Rattle.move_watch.specs.Watch.{IsFresh};
 ghost use Rattle.endings.specs.Answers.{MakesOf};
 ghost use Rattle.endings.specs.Limits.{most_bytes};
 ghost use Rattle.endings.specs.Works.{Gives, Works, WorksAlone, status_of};
-ghost use Rattle.endings.specs.Words.{texts};
-ghost use Rattle.simulation.specs.Words.{words_of, IsExactUsage};
+ghost use Rattle.job_file.specs.Reading.{texts};
+ghost use Rattle.endings.specs.Words.{IsExactUsage};
+ghost use Rattle.simulation.specs.Words.{words_of};
 ghost use Rattle.simulation.specs.Simulated.{sources_of, told_of, outcome_of, simulated, stopped_as, SimulationEnds};
 
 use crate::patrolled::run_patrolled;

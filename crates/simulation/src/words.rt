@@ -1,7 +1,7 @@
 // The words of `simulate`.
 ghost use Rattle.std.specs.Prelude.{◌≡◌, Ok, Err, MatchResult, slice_get, option_and_then};
 ghost use Rattle.std.specs.Option.{option_copied};
-ghost use Rattle.endings.specs.Words.{texts};
+ghost use Rattle.job_file.specs.Reading.{texts};
 ghost use Rattle.simulation.specs.Words.{file_word, word_if, named_of, words_of};
 
 use endings::{begins_with, is_file_word, text_at};

@@ -2,7 +2,7 @@ use Rattle.std.proofs.Common.{Err, subst}
 use Rattle.std.specs.Option.{option_copied}
 use Rattle.std.proofs.lemmas.Result.{err_from_is_err_and}
 use Rattle.job_file.specs.declared.job.Job.{Job}
-use Rattle.endings.specs.Words.{texts}
+use Rattle.job_file.specs.Reading.{texts}
 use Rattle.endings.specs.Answers.{MakesOf}
 use Rattle.mill_inputs.specs.Accepted.{job_in, inputs_held}
 use Rattle.mill_inputs.proofs.AcceptLaws.{refuses_words, refuses_text, refuses_job, refuses_inputs, gives_contents, exact_usage, gives_named, gives_drill}

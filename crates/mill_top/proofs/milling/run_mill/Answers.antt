@@ -1,4 +1,4 @@
-use Rattle.endings.specs.Words.{texts}
+use Rattle.job_file.specs.Reading.{texts}
 use Rattle.mill_outputs.specs.Mill.{Ends}
 use Rattle.mill_outputs.proofs.MillLaws.{puts_ok}
 use Rattle.endings.proofs.RunLaws.{leaves_told, cause_told, lines_told, answers_told}

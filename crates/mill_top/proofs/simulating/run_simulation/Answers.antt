@@ -1,13 +1,14 @@
 use Rattle.std.proofs.Common.{subst}
 use Rattle.std.specs.Prelude.{string_bytes}
-use Rattle.endings.specs.Words.{texts}
+use Rattle.job_file.specs.Reading.{texts}
 use Rattle.endings.specs.Works.{ToldBehind}
 use Rattle.endings.proofs.AloneLaws.{leaves_alone, cause_alone, lines_alone, answers_alone}
 use Rattle.endings.proofs.RunLaws.{leaves_told, cause_told, lines_told, answers_told}
 use Rattle.simulation.specs.Words.{words_of}
 use Rattle.simulation.specs.Simulated.{SimulationEnds}
 use Rattle.simulation.proofs.EndLaws.{only_told, refusal_answered}
-use Rattle.mill_top.proofs.SimulateLaws.{refusal_puts, usage_told, usage_behind}
+use Rattle.endings.proofs.UsageLaws.{usage_told, usage_behind}
+use Rattle.mill_top.proofs.SimulateLaws.{refusal_puts}
 use Rattle.mill_top.proofs.simulating.run_simulation.Goals as goal
 
 -- ---- a run that came to its end

@@ -1,9 +1,10 @@
 use Rattle.endings.specs.declared.status.Status.TheVariants.{Usage}
-use Rattle.endings.specs.Words.{texts}
+use Rattle.job_file.specs.Reading.{texts}
 use Rattle.endings.proofs.ReadingLaws.{still}
-use Rattle.simulation.specs.Words.{named_of}
+use Rattle.endings.proofs.UsageLaws.{usage_accepted}
+use Rattle.simulation.specs.Words.{named_of, words_of}
 use Rattle.simulation.specs.Simulated.{sources_of}
-use Rattle.simulation.proofs.CommandLaws.{refuses_words, refuses_sources, gives_outcome, usage_accepted, sources_other, usage_told}
+use Rattle.simulation.proofs.CommandLaws.{refuses_words, refuses_sources, gives_outcome, sources_other, usage_told}
 use Rattle.simulation.proofs.EndLaws.{works_so, works_result}
 use Rattle.simulation.proofs.command.simulate.Goals as goal
 
@@ -18,7 +19,7 @@ returns-in-Err-read_sources-clause-gives g c =
 
 pub returns-in-Err-read_sources-clause-usage : goal.returns-in-Err-read_sources-clause-usage
 returns-in-Err-read_sources-clause-usage g c =
-    usage_accepted (texts c.args.words.now) (named_of c.in-Ok.names) c.in-Err-read_sources.status c.in-Ok.ensures.value
+    usage_accepted (words_of (texts c.args.words.now)) (named_of c.in-Ok.names) c.in-Err-read_sources.status c.in-Ok.ensures.value
     (sources_other (named_of c.in-Ok.names) c.in-Err-read_sources.status (g.S.Shelf.state c.args.shelf.now) (g.S.Shelf.state c.read_sources.new.shelf) c.in-Err-read_sources.ensures.gives)
 
 pub returns-clause-gives : goal.returns-clause-gives
