@@ -8,6 +8,8 @@ mod boards;
 #[cfg(test)]
 mod commands;
 #[cfg(test)]
+mod drill_files;
+#[cfg(test)]
 mod faults;
 #[cfg(test)]
 mod holes;
