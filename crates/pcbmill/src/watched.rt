@@ -47,3 +47,6 @@ pub fn run_watched<S: Shelf, K: Sink>(
     watchers.push(Box::new(alloc, ToolList::new(FIRST_TOOL, LAST_TOOL))?)?;
     Ok(run(alloc, words, shelf, out, watchers))
 }
+
+#[cfg(test)]
+mod tests;
