@@ -4,10 +4,14 @@ use board_base::MemoryShelf;
 use mill_top::Status;
 use std::test::Fail;
 
-// A number of pads, and the line of their board: one pad, and five with two tracks.
-const BOARDS: [(&str, &str); 2] = [
+// A number of pads, and the line of their board: one pad, five with two tracks, and 200 with 80.
+const BOARDS: [(&str, &str); 3] = [
     ("1", "sample 1 islands 1 listed 0 holes 1 chains 1\n"),
     ("5", "sample 5 islands 3 listed 0 holes 5 chains 1\n"),
+    (
+        "200",
+        "sample 200 islands 120 listed 0 holes 200 chains 1\n",
+    ),
 ];
 
 #[test]
