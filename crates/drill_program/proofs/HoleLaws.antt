@@ -14,7 +14,7 @@ use Rattle.drill_program.specs.Holes.{tool_wants, HolesLaw}
 use Rattle.drill_program.proofs.ProgramLaws.{program_in, program_runs}
 
 -- what a tool run has to cut
-tool_wanted : (job : Job) (number : ℕ) (t : ToolPlan) → map (wanted_cut (tool_run job number t)) (tool_run job number t).cuts ≡ tool_wants job number t
+pub tool_wanted : (job : Job) (number : ℕ) (t : ToolPlan) → map (wanted_cut (tool_run job number t)) (tool_run job number t).cuts ≡ tool_wants job number t
 unfolding tool_run
 tool_wanted job number t =
     let cut = wanted_cut (tool_run job number t) in

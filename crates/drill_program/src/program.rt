@@ -6,12 +6,14 @@ ghost use Rattle.drill_plan.specs.Limits.{IsWithinLimits};
 ghost use Rattle.mill_program.specs.Conditions.{IsProgram, IsRunnable};
 ghost use Rattle.drill_program.specs.Program.{at_depth, hole_cut as hole_cut_of, slot_cut as slot_cut_of, tool_run as tool_run_of, program_of};
 ghost use Rattle.drill_program.specs.Holes.{HolesLaw};
+ghost use Rattle.drill_program.specs.Tiled.{OneTileWantsLaw, TiledHolesLaw};
 
 use board_base::{Items, Point};
 use drill_plan::{DrillPlan, ToolPlan, entries_law};
 use job_file::Job;
 use mill_program::{Corner, Cut, Program, ToolRun, run_law, stroke_law};
 use std::alloc::{AllocError, Global};
+use tiling::wanted_law;
 
 // A place at the depth of the drill.
 fn corner(at: Point, job: &Job) -> Corner
@@ -137,4 +139,17 @@ pub fn holes_law()
     run_law();
     stroke_law();
     entries_law();
+}
+
+/// The run of the program of a file's drill list in tiles drills each hole of the file once in each tile and cuts each
+/// slot once in each, tool after tool and tile after tile, and cuts nothing else. In one tile that is what it does on
+/// the board alone.
+pub fn tiled_holes_law()
+    ensures tiles { TiledHolesLaw }
+    ensures one_tile { OneTileWantsLaw }
+{
+    run_law();
+    stroke_law();
+    entries_law();
+    wanted_law();
 }

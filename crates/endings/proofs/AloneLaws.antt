@@ -6,7 +6,7 @@ use Rattle.board_base.specs.Files.{Files}
 use Rattle.board_base.specs.Shelf.{ShelfState}
 use Rattle.board_base.specs.Sink.{SinkState, appended}
 use Rattle.endings.specs.declared.status.Status.{Status}
-use Rattle.endings.specs.declared.status.Status.TheVariants.{Done, Usage, Job, Gerber, Drill, Outline, TooLong, Limit, ReadFault, WriteFault, Ngc, Watch, Memory}
+use Rattle.endings.specs.declared.status.Status.TheVariants.{Done, Usage, Job, Gerber, Drill, Outline, TooLong, Limit, ReadFault, WriteFault, Ngc, Watch, Cell, Memory}
 use Rattle.endings.specs.Answers.{IfTold}
 use Rattle.endings.specs.Lines.{line_of}
 use Rattle.endings.specs.Outputs.{all_stored, IsStopped}
@@ -44,12 +44,14 @@ ok_some (ReadFault role) lines some = some
 ok_some (WriteFault role) lines some = some
 ok_some (Ngc role fault line) lines some = some
 ok_some (Watch watcher at) lines some = some
+ok_some (Cell i j line) lines some = some
 ok_some Memory lines some = some
 
 leaves_as : (ends : Command) (lines : List ℕ) (status : Status) (before now : ShelfState) → WorksAlone ends lines status before now → Leaves ends status before now
 leaves_as ends lines Done before now w = reaches_alone ends lines Done before now (λ e. (e.status ≡ Done) × (now.files ≡ all_stored e.outputs before.files)) w (refl, w.files)
 leaves_as ends lines (Watch watcher at) before now w = (w.files, w.writes)
 leaves_as ends lines (Usage word) before now w = absurd w.comes
+leaves_as ends lines (Cell i j line) before now w = absurd w.comes
 leaves_as ends lines (Job error) before now w = absurd w.comes
 leaves_as ends lines (Gerber role error) before now w = absurd w.comes
 leaves_as ends lines (Drill error) before now w = absurd w.comes
@@ -65,6 +67,7 @@ cause_as : (ends : Command) (lines : List ℕ) (status : Status) (before now : S
 cause_as ends lines Done before now k l w = reaches_alone ends lines Done before now (λ e. e.status ≡ Done) w refl
 cause_as ends lines (Watch watcher at) before now k l w = reaches_alone ends lines (Watch watcher at) before now (λ e. e.status ≡ Watch watcher at) w refl
 cause_as ends lines (Usage word) before now k l w = absurd w.comes
+cause_as ends lines (Cell i j line) before now k l w = absurd w.comes
 cause_as ends lines (Job error) before now k l w = absurd w.comes
 cause_as ends lines (Gerber role error) before now k l w = absurd w.comes
 cause_as ends lines (Drill error) before now k l w = absurd w.comes
@@ -113,6 +116,7 @@ lines_alone ends lines (Watch watcher at) result before now k l w (inl (is, got)
     (reaches_alone ends lines (Watch watcher at) before now (λ e. (e.status ≡ Watch watcher at) × Got (e.lines ++ line_of (Watch watcher at)) k l) w (refl, got))
 lines_alone ends lines (Watch watcher at) result before now k l w (inr broke) = broke_alone ends lines (Watch watcher at) result before now k l w broke
 lines_alone ends lines (Usage word) result before now k l w told = absurd w.comes
+lines_alone ends lines (Cell i j line) result before now k l w told = absurd w.comes
 lines_alone ends lines (Job error) result before now k l w told = absurd w.comes
 lines_alone ends lines (Gerber role error) result before now k l w told = absurd w.comes
 lines_alone ends lines (Drill error) result before now k l w told = absurd w.comes

@@ -9,7 +9,7 @@ use Rattle.board_base.specs.Counts.{Rose, RoseBy}
 use Rattle.board_base.specs.Files.{Files}
 use Rattle.board_base.specs.Shelf.{ShelfState, OnlyReads}
 use Rattle.endings.specs.declared.status.Status.{Status}
-use Rattle.endings.specs.declared.status.Status.TheVariants.{Done, Usage, Job, Gerber, Drill, Outline, TooLong, Limit, ReadFault, WriteFault, Ngc, Watch, Memory}
+use Rattle.endings.specs.declared.status.Status.TheVariants.{Done, Usage, Job, Gerber, Drill, Outline, TooLong, Limit, ReadFault, WriteFault, Ngc, Watch, Cell, Memory}
 use Rattle.endings.specs.Limits.{most_bytes}
 use Rattle.endings.specs.Lines.{role_name}
 use Rattle.endings.specs.Reads.{Reading, held_in, MayRead, without, accepted_bytes, input}
@@ -81,6 +81,7 @@ input_gives role name before now (Err (Drill error)) r = absurd r
 input_gives role name before now (Err (Outline error)) r = absurd r
 input_gives role name before now (Err (Ngc at fault line)) r = absurd r
 input_gives role name before now (Err (Watch watcher at)) r = absurd r
+input_gives role name before now (Err (Cell i j line)) r = absurd r
 input_gives role name before now (Err (Limit hit)) r = absurd r
 input_gives role name before now (Err (WriteFault at)) r = absurd r
 

@@ -6,7 +6,7 @@ use Rattle.board_base.specs.Sink.{SinkState, appended}
 use Rattle.board_base.specs.Files.{Files}
 use Rattle.board_base.specs.Shelf.{ShelfState, OnlyReads}
 use Rattle.endings.specs.declared.status.Status.{Status}
-use Rattle.endings.specs.declared.status.Status.TheVariants.{Done, Usage, Job, Gerber, Drill, Outline, TooLong, Limit, ReadFault, WriteFault, Ngc, Watch, Memory}
+use Rattle.endings.specs.declared.status.Status.TheVariants.{Done, Usage, Job, Gerber, Drill, Outline, TooLong, Limit, ReadFault, WriteFault, Ngc, Watch, Cell, Memory}
 use Rattle.endings.specs.Answers.{IfTold, ToldAnd}
 use Rattle.endings.specs.Lines.{line_of}
 use Rattle.endings.specs.Outputs.{all_stored, IsStopped}
@@ -48,6 +48,7 @@ refuses_weaker R Q (TooLong role) before now weaker r = (((r.0).0, (r.0).1, weak
 refuses_weaker R Q (Limit hit) before now weaker r = (r.0, r.1, weaker r.0 (Limit hit) r.2)
 refuses_weaker R Q (Ngc role fault line) before now weaker r = (r.0, r.1, weaker r.0 (Ngc role fault line) r.2)
 refuses_weaker R Q (Watch watcher at) before now weaker r = (r.0, r.1, weaker r.0 (Watch watcher at) r.2)
+refuses_weaker R Q (Cell i j line) before now weaker r = (r.0, r.1, weaker r.0 (Cell i j line) r.2)
 refuses_weaker R Q (ReadFault role) before now weaker (inl r) = inl (r.0, r.1, r.2, weaker (without role r.1) (ReadFault role) r.3)
 refuses_weaker R Q (ReadFault role) before now weaker (inr r) =
     inr (told_and_weaker before.files (λ files. R (held_in files) (ReadFault role)) (λ files. Q (held_in files) (ReadFault role)) (λ files. weaker (held_in files) (ReadFault role)) r)
@@ -66,6 +67,7 @@ works_refused ends (TooLong role) before now keeps r = (keeps.files, keeps.write
 works_refused ends (Limit hit) before now keeps r = (keeps.files, keeps.writes, r)
 works_refused ends (Ngc role fault line) before now keeps r = (keeps.files, keeps.writes, r)
 works_refused ends (Watch watcher at) before now keeps r = (keeps.files, keeps.writes, r)
+works_refused ends (Cell i j line) before now keeps r = (keeps.files, keeps.writes, r)
 works_refused ends (ReadFault role) before now keeps r = (keeps.files, keeps.writes, r)
 works_refused ends (WriteFault role) before now keeps r = absurd r
 works_refused ends Memory before now keeps r = inl keeps.files
@@ -127,7 +129,9 @@ leaves_told ends (Limit hit) result ok before now k l w (inr (is, same)) = subst
 leaves_told ends (Ngc role fault line) result ok before now k l w (inl (is, got)) = subst (λ s. Leaves ends s before now) (sym is) (w.0, w.1)
 leaves_told ends (Ngc role fault line) result ok before now k l w (inr (is, same)) = subst (λ s. Leaves ends s before now) (sym is) (inl w.0)
 leaves_told ends (Watch watcher at) result ok before now k l w (inl (is, got)) = subst (λ s. Leaves ends s before now) (sym is) (w.0, w.1)
+leaves_told ends (Cell i j line) result ok before now k l w (inl (is, got)) = subst (λ s. Leaves ends s before now) (sym is) (w.0, w.1)
 leaves_told ends (Watch watcher at) result ok before now k l w (inr (is, same)) = subst (λ s. Leaves ends s before now) (sym is) (inl w.0)
+leaves_told ends (Cell i j line) result ok before now k l w (inr (is, same)) = subst (λ s. Leaves ends s before now) (sym is) (inl w.0)
 leaves_told ends (ReadFault role) result ok before now k l w (inl (is, got)) = subst (λ s. Leaves ends s before now) (sym is) (w.0, w.1)
 leaves_told ends (ReadFault role) result ok before now k l w (inr (is, same)) = subst (λ s. Leaves ends s before now) (sym is) (inl w.0)
 
@@ -149,6 +153,7 @@ cause_told ends status result before now k l w (inl is) = subst (λ s. HasCause 
     by_status (Limit hit) w = from_refusal (Limit hit) w.2
     by_status (Ngc role fault line) w = from_refusal (Ngc role fault line) w.2
     by_status (Watch watcher at) w = from_refusal (Watch watcher at) w.2
+    by_status (Cell i j line) w = from_refusal (Cell i j line) w.2
     by_status (ReadFault role) w = w.2
     by_status (WriteFault role) w = inr (w.0, w.1)
     by_status Memory w = tt
@@ -195,7 +200,9 @@ lines_told ends (Limit hit) result ok before now k l w (inr (is, same)) = subst 
 lines_told ends (Ngc role fault line) result ok before now k l w (inl (is, got)) = subst (λ s. Tells ends s before now k l) (sym is) ((w.2).0, (w.2).1, refusal (Ngc role fault line), (w.2).2, (refl, got))
 lines_told ends (Ngc role fault line) result ok before now k l w (inr (is, same)) = subst (λ s. Tells ends s before now k l) (sym is) (inl (0, same ∙ sym (appended_nothing k.text)))
 lines_told ends (Watch watcher at) result ok before now k l w (inl (is, got)) = subst (λ s. Tells ends s before now k l) (sym is) ((w.2).0, (w.2).1, refusal (Watch watcher at), (w.2).2, (refl, got))
+lines_told ends (Cell i j line) result ok before now k l w (inl (is, got)) = subst (λ s. Tells ends s before now k l) (sym is) ((w.2).0, (w.2).1, refusal (Cell i j line), (w.2).2, (refl, got))
 lines_told ends (Watch watcher at) result ok before now k l w (inr (is, same)) = subst (λ s. Tells ends s before now k l) (sym is) (inl (0, same ∙ sym (appended_nothing k.text)))
+lines_told ends (Cell i j line) result ok before now k l w (inr (is, same)) = subst (λ s. Tells ends s before now k l) (sym is) (inl (0, same ∙ sym (appended_nothing k.text)))
 
 -- what is answered to each ending
 answer_told : (ends : Command) (status result : Status) → (status ≡ Done → PutsOk ends) → (files : Files) (before now : ShelfState) (k l : SinkState) → Becomes status result k l

@@ -7,7 +7,7 @@ use Rattle.board_base.specs.declared.places.Role.TheVariants as roles
 use Rattle.board_base.specs.Counts.{Rose, RoseBy}
 use Rattle.board_base.specs.Sink.{SinkState, appended, AppendsPrefix}
 use Rattle.endings.specs.declared.status.Status.{Status}
-use Rattle.endings.specs.declared.status.Status.TheVariants.{Done, Usage, Job, Gerber, Drill, Outline, TooLong, Limit, ReadFault, WriteFault, Ngc, Watch, Memory}
+use Rattle.endings.specs.declared.status.Status.TheVariants.{Done, Usage, Job, Gerber, Drill, Outline, TooLong, Limit, ReadFault, WriteFault, Ngc, Watch, Cell, Memory}
 use Rattle.endings.specs.Lines.{line_of}
 use Rattle.endings.specs.Run.{Got}
 use Rattle.endings.specs.Works.{Told, ToldBehind, BrokeOff, RefusalTold}
@@ -127,6 +127,7 @@ told_behind lines (ReadFault role) result before between now e more told = refus
 told_behind lines (WriteFault role) result before between now e more told = refusal_behind lines (WriteFault role) result before between now e more told
 told_behind lines (Ngc role fault line) result before between now e more told = refusal_behind lines (Ngc role fault line) result before between now e more told
 told_behind lines (Watch watcher at) result before between now e more told = refusal_behind lines (Watch watcher at) result before between now e more told
+told_behind lines (Cell i j line) result before between now e more told = refusal_behind lines (Cell i j line) result before between now e more told
 told_behind lines Memory result before between now e more told = refusal_behind lines Memory result before between now e more told
 
 -- the lines before a status broke off
@@ -143,6 +144,7 @@ broke_told lines (ReadFault role) result before now broke = inr broke
 broke_told lines (WriteFault role) result before now broke = inr broke
 broke_told lines (Ngc role fault line) result before now broke = inr broke
 broke_told lines (Watch watcher at) result before now broke = inr broke
+broke_told lines (Cell i j line) result before now broke = inr broke
 broke_told lines Memory result before now broke = inr broke
 
 -- a refusal's line was put
@@ -157,6 +159,7 @@ refusal_told (TooLong role) result before now other told = told
 refusal_told (Limit hit) result before now other told = told
 refusal_told (Ngc role fault line) result before now other told = told
 refusal_told (Watch watcher at) result before now other told = told
+refusal_told (Cell i j line) result before now other told = told
 refusal_told (ReadFault role) result before now other told = told
 refusal_told (WriteFault role) result before now other told = told
 refusal_told Memory result before now other told = told

@@ -6,7 +6,7 @@ use Rattle.board_base.specs.declared.places.Role.TheVariants.{Job, Front, Back, 
 use Rattle.mill_plan.specs.declared.limits.LimitHit.{LimitHit}
 use Rattle.mill_plan.specs.declared.limits.LimitHit.TheVariants as hits
 use Rattle.endings.specs.declared.status.Status.{Status}
-use Rattle.endings.specs.declared.status.Status.TheVariants.{Done, Usage, Job as RefusedJob, Gerber, Drill as RefusedDrill, Outline as RefusedOutline, TooLong, Limit, ReadFault, WriteFault, Ngc as RefusedNgc, Watch, Memory}
+use Rattle.endings.specs.declared.status.Status.TheVariants.{Done, Usage, Job as RefusedJob, Gerber, Drill as RefusedDrill, Outline as RefusedOutline, TooLong, Limit, ReadFault, WriteFault, Ngc as RefusedNgc, Watch, Cell as HitCell, Memory}
 use Rattle.endings.specs.declared.status.NgcOrSim.{NgcOrSim}
 use Rattle.endings.specs.declared.status.NgcOrSim.TheVariants.{Reader, Machine}
 use Rattle.macro_eval.specs.declared.fault.MacroFault.{MacroFault}
@@ -139,6 +139,8 @@ limit_text hits.Islands = codes "Islands"
 limit_text hits.Objects = codes "Objects"
 limit_text hits.Vertices = codes "Vertices"
 limit_text hits.Holes = codes "Holes"
+limit_text (hits.Probes count) = codes "Probes " ++ decimal count
+limit_text (hits.Tile x y) = codes "Tile " ++ signed_decimal x ++ codes " " ++ signed_decimal y
 
 -- the line of a status
 abbrev pub line_of : Status → List ℕ
@@ -154,4 +156,5 @@ line_of (ReadFault role) = codes "pcbmill: read " ++ role_name role ++ codes "\n
 line_of (WriteFault role) = codes "pcbmill: write " ++ role_name role ++ codes "\n"
 line_of (RefusedNgc role fault line) = codes "pcbmill: " ++ role_name role ++ codes ": " ++ fault_name fault ++ codes " line " ++ decimal line ++ codes "\n"
 line_of (Watch watcher at) = codes "pcbmill: refused: watcher " ++ decimal watcher ++ codes " move " ++ decimal at ++ codes "\n"
+line_of (HitCell i j line) = codes "pcbmill: refused: cell " ++ signed_decimal i ++ codes " " ++ signed_decimal j ++ codes " line " ++ decimal line ++ codes "\n"
 line_of Memory = codes "pcbmill: memory\n"

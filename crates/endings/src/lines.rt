@@ -1,5 +1,6 @@
 // The lines that the sink gets.
 ghost use Rattle.std.specs.Prelude.{◌≡◌, IfOk, string_bytes, Some};
+ghost use Rattle.mill_plan.specs.declared.limits.LimitHit.TheVariants as hits;
 ghost use Rattle.endings.specs.Lines.{line_of, role_name, kind_name, macro_name, drill_name, outline_text as outline_text_of, job_name, job_text as job_text_of, ngc_name, sim_name, fault_name, limit_text as limit_text_of};
 
 use crate::{GerberKind, NgcOrSim, Status};
@@ -176,6 +177,13 @@ fn name_of_either(fault: NgcOrSim) -> &'static str
     }
 }
 
+// A corner of a tile that is too far out.
+fn tile_text(alloc: Global, x: i64, y: i64) -> Result<String, AllocError>
+    ensures { IfOk result (λ text. string_bytes text ≡ limit_text_of (hits.Tile x y)) }
+{
+    Ok(format!(in alloc; "Tile {x} {y}")?)
+}
+
 // A limit and the quantity that passes it.
 fn limit_text(alloc: Global, hit: LimitHit) -> Result<String, AllocError>
     ensures { IfOk result (λ text. string_bytes text ≡ limit_text_of hit) }
@@ -188,6 +196,8 @@ fn limit_text(alloc: Global, hit: LimitHit) -> Result<String, AllocError>
         LimitHit::Objects => Ok(String::from_str(alloc, "Objects")?),
         LimitHit::Vertices => Ok(String::from_str(alloc, "Vertices")?),
         LimitHit::Holes => Ok(String::from_str(alloc, "Holes")?),
+        LimitHit::Probes(count) => Ok(format!(in alloc; "Probes {count}")?),
+        LimitHit::Tile { x, y } => tile_text(alloc, x, y),
     }
 }
 
@@ -215,6 +225,13 @@ fn ngc_line(alloc: Global, role: Role, fault: NgcOrSim, line: u32) -> Result<Str
     let place = name_of(role);
     let kind = name_of_either(fault);
     Ok(format!(in alloc; "pcbmill: {place}: {kind} line {line}\n")?)
+}
+
+// The line of a cell of copper that a program hits.
+fn cell_line(alloc: Global, i: i32, j: i32, line: u32) -> Result<String, AllocError>
+    ensures { IfOk result (λ text. string_bytes text ≡ line_of (Status.Cell i j line)) }
+{
+    Ok(format!(in alloc; "pcbmill: refused: cell {i} {j} line {line}\n")?)
 }
 
 // The line of an objection.
@@ -261,6 +278,7 @@ pub fn line(alloc: Global, status: Status) -> Result<String, AllocError>
         }
         Status::Ngc { role, fault, line } => ngc_line(alloc, role, fault, line),
         Status::Watch { watcher, at } => watch_line(alloc, watcher, at),
+        Status::Cell { i, j, line } => cell_line(alloc, i, j, line),
         Status::Memory => Ok(String::from_str(alloc, "pcbmill: memory\n")?),
     }
 }

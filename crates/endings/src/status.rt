@@ -68,6 +68,12 @@ pub enum Status {
         watcher: u32,
         at: u64,
     },
+    /// A low move of the checked program, on this line, is so near to the centre of this kept cell that it may bite copper.
+    Cell {
+        i: i32,
+        j: i32,
+        line: u32,
+    },
     /// There was no memory.
     Memory,
 }
@@ -96,6 +102,11 @@ impl Status {
                 line: _,
             } => 10,
             Status::Watch { watcher: _, at: _ } => 11,
+            Status::Cell {
+                i: _,
+                j: _,
+                line: _,
+            } => 11,
             Status::Memory => 12,
         }
     }

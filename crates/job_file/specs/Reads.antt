@@ -1,5 +1,5 @@
 -- What a text says as the value of a key.
-use Rattle.std.specs.Prelude.{◌≡◌, ℕ, ℤ, pos, List, length, map, Bool, true, false, not, ◌&&◌, ◌||◌, ◌==◌, if◌then◌else◌, nat_le, nat_lt, Result, Ok, Err}
+use Rattle.std.specs.Prelude.{◌≡◌, ℕ, ℤ, pos, List, length, map, Bool, true, false, not, ◌&&◌, ◌||◌, ◌==◌, if◌then◌else◌, nat_le, Result, Ok, Err}
 use Rattle.std.specs.List.{list_all}
 use Rattle.std.specs.Bool.{beq}
 use Rattle.board_base.specs.Binds.{◌>>=◌}
@@ -97,14 +97,14 @@ read_of (kinds.Feed default) text = feed_value text
 read_of (kinds.Whole least most default) text = count_value least most text
 read_of (kinds.Percent least most default) text = count_value least most (without_percent text)
 
--- what a value of a key asks for isn't built yet: more than one tile, levelling
-abbrev pub asks_more : Value → Bool
-asks_more (Count n) = nat_lt 1 n
-asks_more (Truth truth) = truth
-asks_more _ = false
+-- the value is yes
+abbrev pub is_yes : Value → Bool
+is_yes (Truth truth) = truth
+is_yes _ = false
 
+-- what a value of this key asks for isn't built yet: levelling
 unfoldable pub is_ahead : ℕ → Value → Bool
-is_ahead key value = (key == 31 || key == 32 || key == 33) && asks_more value
+is_ahead key value = (key == 33) && is_yes value
 
 -- the value that a text is of the key with this number
 unfoldable pub value_read : ℕ → List ℕ → Result Value JobKind

@@ -17,7 +17,7 @@ pub enum JobKind {
     Missing,
     /// The value is less than the least or more than the greatest, or doesn't go with another key's.
     OutOfRange,
-    /// The value asks for what isn't built yet: more than one tile or levelling.
+    /// The value asks for what isn't built yet: levelling.
     NotBuiltYet,
     /// The cutter may reach as far into the copper as it is wide.
     TolerancePastCutter,

@@ -3,7 +3,7 @@ ghost use Rattle.std.specs.Prelude.{◌≡◌, ◌<◌, ◌⊎◌, ◌++◌, ◌
 ghost use Rattle.std.specs.Option.{option_map};
 ghost use Rattle.job_file.specs.Keys.{IsKey, kind_of as kind_in, micrometres};
 ghost use Rattle.job_file.specs.Numbers.{is_between as is_between_in, is_name, is_printable, is_plain_sign, pieces, pieces_left};
-ghost use Rattle.job_file.specs.Reads.{Answers, AnswersBy, read_of, truth_value as truth_value_of, only_value as only_value_of, length_value as length_value_of, even_length_value as even_length_value_of, sizes_value as sizes_value_of, lengths_value as lengths_value_of, feed_value as feed_value_of, count_value as count_value_of, ranged as ranged_of, even_ranged as even_ranged_of, counted as counted_of, paced as paced_of, named as named_of, few_lengths as few_lengths_of, all_ranged as all_ranged_of, asks_more as asks_more_in, is_ahead as is_ahead_in, value_read};
+ghost use Rattle.job_file.specs.Reads.{Answers, AnswersBy, read_of, truth_value as truth_value_of, only_value as only_value_of, length_value as length_value_of, even_length_value as even_length_value_of, sizes_value as sizes_value_of, lengths_value as lengths_value_of, feed_value as feed_value_of, count_value as count_value_of, ranged as ranged_of, even_ranged as even_ranged_of, counted as counted_of, paced as paced_of, named as named_of, few_lengths as few_lengths_of, all_ranged as all_ranged_of, is_yes as is_yes_of, is_ahead as is_ahead_in, value_read};
 
 use crate::error::JobKind;
 use crate::keys::{Kind, kind_of};
@@ -285,24 +285,22 @@ fn value_of_kind(alloc: Global, kind: Kind, text: &[u8]) -> Result<Value, JobKin
     }
 }
 
-// Whether this value asks for more than is built of a key that isn't built yet.
-fn asks_more(value: &Value) -> bool
-    ensures { result ≡ asks_more_in value.now }
+// Whether a value is yes.
+fn is_yes(value: &Value) -> bool
+    ensures { result ≡ is_yes_of value.now }
 {
     match value {
-        Value::Count(n) => 1 < *n,
         Value::Truth(truth) => *truth,
         _ => false,
     }
 }
 
-// Whether what this value asks for isn't built yet: more than one tile, levelling.
+// Whether what this value asks for isn't built yet: levelling.
 #[tactic(auto, unfolding(crate::specs::Reads::is_ahead))]
 fn is_ahead(key: u8, value: &Value) -> bool
     ensures { result ≡ is_ahead_in key value.now }
 {
-    let is_new = key == 31 || key == 32 || key == 33;
-    is_new && asks_more(value)
+    key == 33 && is_yes(value)
 }
 
 /// The value that a text is of the key with this number.

@@ -12,7 +12,7 @@ use Rattle.job_file.specs.declared.error.JobKind.TheVariants as jobs
 use Rattle.job_file.specs.declared.error.JobError.{JobError}
 use Rattle.job_file.specs.Read.{job_read}
 use Rattle.endings.specs.declared.status.Status.{Status}
-use Rattle.endings.specs.declared.status.Status.TheVariants.{Done, Usage, Job as RefusedJob, Gerber, Drill, Outline, TooLong, Limit, ReadFault, WriteFault, Ngc, Watch, Memory}
+use Rattle.endings.specs.declared.status.Status.TheVariants.{Done, Usage, Job as RefusedJob, Gerber, Drill, Outline, TooLong, Limit, ReadFault, WriteFault, Ngc, Watch, Cell, Memory}
 use Rattle.endings.specs.Reads.{Reading, held_in, MayRead, without, input}
 use Rattle.endings.specs.Answers.{usage, ToldAnd, MakesOf}
 use Rattle.endings.specs.Works.{Refuses, Gives, status_of}
@@ -83,7 +83,7 @@ job_refusals jobs.TolerancePastCutter error = tt
 job_refusals jobs.PitchTooCoarse error = tt
 job_refusals jobs.Memory error = tt
 
-job_refusal : (r : Result Job JobError) → IfErr (job_or_refused r) IsOfBytes
+pub job_refusal : (r : Result Job JobError) → IfErr (job_or_refused r) IsOfBytes
 job_refusal (Ok job) = tt
 job_refusal (Err error) = job_refusals error.kind error
 
@@ -122,10 +122,10 @@ gives_contents words place text job raw before between now result keeps e first 
 
 -- ---- exactly the words that are wrong are a usage
 
-same_err : (B : Type 0) (a b : Status) → ◌≡◌ {A = Result B Status} (Err a) (Err b) → a ≡ b
+pub same_err : (B : Type 0) (a b : Status) → ◌≡◌ {A = Result B Status} (Err a) (Err b) → a ≡ b
 same_err B a b e = cc
 
-not_both : {A B : Type 0} (r : Result A Status) (f : A → Result B Status) (s : Status) → (r ≡ Err s → ⊥) → ((x : A) → f x ≡ Err s → ⊥) → (r >>= f) ≡ Err s → ⊥
+pub not_both : {A B : Type 0} (r : Result A Status) (f : A → Result B Status) (s : Status) → (r ≡ Err s → ⊥) → ((x : A) → f x ≡ Err s → ⊥) → (r >>= f) ≡ Err s → ⊥
 not_both (Ok x) f s first next e = next x e
 not_both {B = B} (Err status) f s first next e = first (ap Err (same_err B status s e))
 
@@ -135,7 +135,7 @@ not_files word (inl (inr back)) = absurd back
 not_files word (inr (inl drill)) = absurd drill
 not_files word (inr (inr outline)) = absurd outline
 
-usage_only : {X Y : Type 0} (r : Result X ℕ) (f : X → Result Y Status) (word : ℕ) → ((x : X) → f x ≡ Err (Usage word) → ⊥) → (usage r >>= f) ≡ Err (Usage word) → r ≡ Err word
+pub usage_only : {X Y : Type 0} (r : Result X ℕ) (f : X → Result Y Status) (word : ℕ) → ((x : X) → f x ≡ Err (Usage word) → ⊥) → (usage r >>= f) ≡ Err (Usage word) → r ≡ Err word
 usage_only (Ok x) f word next e = absurd (next x e)
 usage_only (Err number) f word next e = cc
 
@@ -172,6 +172,7 @@ refused_as_words words word status before now e = by_status status
     by_status (Outline error) r = inl (is r.0 (Outline error) r.2)
     by_status (Ngc role fault line) r = inl (is r.0 (Ngc role fault line) r.2)
     by_status (Watch watcher at) r = inl (is r.0 (Watch watcher at) r.2)
+    by_status (Cell i j line) r = inl (is r.0 (Cell i j line) r.2)
     by_status (Limit hit) r = inl (is r.0 (Limit hit) r.2)
     by_status (TooLong role) r = inl (is (r.0).0 (TooLong role) (r.0).2)
     by_status (ReadFault role) (inl r) = inl (is (without role r.1) (ReadFault role) r.3)
@@ -219,11 +220,11 @@ inputs_there job given raw e =
     }
 
 -- what is accepted, of the files that the job names
-record IsWhole (x : Accepts) : Type 0 where
+pub record IsWhole (x : Accepts) : Type 0 where
   pub named : IsNamed x
   pub stands : IsDrillOf x.drill
 
-whole_as : (words : List (List ℕ)) (given : Reading) (x : Accepts) → accepted words given ≡ Ok x → IsWhole x
+pub whole_as : (words : List (List ℕ)) (given : Reading) (x : Accepts) → accepted words given ≡ Ok x → IsWhole x
 unfolding accepted
 whole_as words given x e =
     let p = step (usage (words_of words)) _ x e in
@@ -252,7 +253,7 @@ gives_drill words before now (Err status) r = tt
 
 -- ---- no refusal is Done
 
-usage_not_done : {A : Type 0} (r : Result A ℕ) → usage r ≡ Err Done → ⊥
+pub usage_not_done : {A : Type 0} (r : Result A ℕ) → usage r ≡ Err Done → ⊥
 usage_not_done (Ok x) e = cc
 usage_not_done (Err word) e = cc
 

@@ -38,7 +38,7 @@ refused_of_image role kinds.TooManyVertices at = tt
 refused_of_image role kinds.NoEnd at = tt
 refused_of_image role kinds.Memory at = tt
 
-painted_refused : (role : Role) (outcome : Outcome) → IfErr (painted_or_refused role outcome) IsOfBytes
+pub painted_refused : (role : Role) (outcome : Outcome) → IfErr (painted_or_refused role outcome) IsOfBytes
 painted_refused role (Ok painted) = tt
 painted_refused role (Err refusal) = refused_of_image role refusal.0 refusal.1
 

@@ -1,6 +1,6 @@
 mod WordLaws
 pub mod StepLaws
-mod ReadLaws
-mod InputLaws
+pub mod ReadLaws
+pub mod InputLaws
 pub mod ContentLaws
 pub mod AcceptLaws

@@ -50,7 +50,7 @@ IsReadOf role (ReadFault r) = r ≡ role
 IsReadOf role (TooLong r) = r ≡ role
 IsReadOf role status = ⊥
 
-bytes_refused : (role : Role) (o : Option (List ℕ)) → IfErr (accepted_bytes role o) (IsReadOf role)
+pub bytes_refused : (role : Role) (o : Option (List ℕ)) → IfErr (accepted_bytes role o) (IsReadOf role)
 bytes_refused role None = refl
 bytes_refused role (Some bytes) = by_case (nat_lt most_bytes (length bytes))
   where

@@ -7,7 +7,7 @@ use Rattle.board_base.specs.Files.{Files}
 use Rattle.board_base.specs.Shelf.{ShelfState, OnlyReads}
 use Rattle.board_base.specs.Binds.{◌>>=◌}
 use Rattle.endings.specs.declared.status.Status.{Status}
-use Rattle.endings.specs.declared.status.Status.TheVariants.{Done, Usage, Job, Gerber, Drill, Outline, TooLong, Limit, ReadFault, WriteFault, Ngc, Watch, Memory}
+use Rattle.endings.specs.declared.status.Status.TheVariants.{Done, Usage, Job, Gerber, Drill, Outline, TooLong, Limit, ReadFault, WriteFault, Ngc, Watch, Cell, Memory}
 use Rattle.endings.specs.Limits.{most_bytes}
 use Rattle.endings.specs.Lines.{role_name}
 use Rattle.endings.specs.Reads.{Reading, held_in, MayRead, without}
@@ -51,6 +51,7 @@ refuses_onto R Q (Outline error) a b c keeps carries r = carried a.files b.files
 refuses_onto R Q (Ngc role fault line) a b c keeps carries r =
     carried a.files b.files (λ g. R g (Ngc role fault line)) (λ g. Q g (Ngc role fault line)) keeps.files (λ g may. carries.answer g may (Ngc role fault line)) r
 refuses_onto R Q (Watch watcher at) a b c keeps carries r = carried a.files b.files (λ g. R g (Watch watcher at)) (λ g. Q g (Watch watcher at)) keeps.files (λ g may. carries.answer g may (Watch watcher at)) r
+refuses_onto R Q (Cell i j line) a b c keeps carries r = carried a.files b.files (λ g. R g (Cell i j line)) (λ g. Q g (Cell i j line)) keeps.files (λ g may. carries.answer g may (Cell i j line)) r
 refuses_onto R Q (Limit hit) a b c keeps carries r = carried a.files b.files (λ g. R g (Limit hit)) (λ g. Q g (Limit hit)) keeps.files (λ g may. carries.answer g may (Limit hit)) r
 refuses_onto R Q (TooLong role) a b c keeps carries r = (
   carried a.files b.files (λ g. R g (TooLong role)) (λ g. Q g (TooLong role)) keeps.files (λ g may. carries.answer g may (TooLong role)) r.0,
@@ -196,19 +197,26 @@ pub if_err_then : {A B : Type 0} (P : Status → Type 0) (r : Result A Status) (
 if_err_then P (Ok x) f first next = next x
 if_err_then P (Err s) f first next = first
 
--- a refusal that is made of what reads give
+-- a refusal that is made of what reads give, and is none of a read
+pub made_refuses_as : {X Y : Type 0} (P : Status → Type 0) → ((role : Role) → P (ReadFault role) → ⊥) → ((role : Role) → P (TooLong role) → ⊥)
+    → (view : X → Y) (made : Result Y Status) (status : Status) (before now : ShelfState) (Q : Reading → Status → Type 0) → IfErr made P
+    → (given : Reading) → MayRead before.files given → ((s : Status) → made ≡ Err s → Q given s) → MakesOf view made (Err status) → Refuses Q status before now
+made_refuses_as P read long view made Done before now Q of given may next bad = absurd bad
+made_refuses_as P read long view made (WriteFault role) before now Q of given may next bad = absurd bad
+made_refuses_as P read long view made Memory before now Q of given may next bad = tt
+made_refuses_as P read long view made (Usage word) before now Q of given may next bad = (given, may, next (Usage word) bad)
+made_refuses_as P read long view made (Job error) before now Q of given may next bad = (given, may, next (Job error) bad)
+made_refuses_as P read long view made (Gerber role error) before now Q of given may next bad = (given, may, next (Gerber role error) bad)
+made_refuses_as P read long view made (Drill error) before now Q of given may next bad = (given, may, next (Drill error) bad)
+made_refuses_as P read long view made (Outline error) before now Q of given may next bad = (given, may, next (Outline error) bad)
+made_refuses_as P read long view made (Ngc role fault line) before now Q of given may next bad = (given, may, next (Ngc role fault line) bad)
+made_refuses_as P read long view made (Watch watcher at) before now Q of given may next bad = (given, may, next (Watch watcher at) bad)
+made_refuses_as P read long view made (Cell i j line) before now Q of given may next bad = (given, may, next (Cell i j line) bad)
+made_refuses_as P read long view made (Limit hit) before now Q of given may next bad = (given, may, next (Limit hit) bad)
+made_refuses_as P read long view made (ReadFault role) before now Q of given may next bad = absurd (read role (err_is P made (ReadFault role) of bad))
+made_refuses_as P read long view made (TooLong role) before now Q of given may next bad = absurd (long role (err_is P made (TooLong role) of bad))
+
+-- the same of what was read by `mill`
 pub made_refuses : {X Y : Type 0} (view : X → Y) (made : Result Y Status) (status : Status) (before now : ShelfState) (Q : Reading → Status → Type 0) → IfErr made IsOfBytes
     → (given : Reading) → MayRead before.files given → ((s : Status) → made ≡ Err s → Q given s) → MakesOf view made (Err status) → Refuses Q status before now
-made_refuses view made Done before now Q of given may next bad = absurd bad
-made_refuses view made (WriteFault role) before now Q of given may next bad = absurd bad
-made_refuses view made Memory before now Q of given may next bad = tt
-made_refuses view made (Usage word) before now Q of given may next bad = (given, may, next (Usage word) bad)
-made_refuses view made (Job error) before now Q of given may next bad = (given, may, next (Job error) bad)
-made_refuses view made (Gerber role error) before now Q of given may next bad = (given, may, next (Gerber role error) bad)
-made_refuses view made (Drill error) before now Q of given may next bad = (given, may, next (Drill error) bad)
-made_refuses view made (Outline error) before now Q of given may next bad = (given, may, next (Outline error) bad)
-made_refuses view made (Ngc role fault line) before now Q of given may next bad = (given, may, next (Ngc role fault line) bad)
-made_refuses view made (Watch watcher at) before now Q of given may next bad = (given, may, next (Watch watcher at) bad)
-made_refuses view made (Limit hit) before now Q of given may next bad = (given, may, next (Limit hit) bad)
-made_refuses view made (ReadFault role) before now Q of given may next bad = absurd (err_is IsOfBytes made (ReadFault role) of bad)
-made_refuses view made (TooLong role) before now Q of given may next bad = absurd (err_is IsOfBytes made (TooLong role) of bad)
+made_refuses view made status before now Q of given may next bad = made_refuses_as IsOfBytes (λ role h. h) (λ role h. h) view made status before now Q of given may next bad

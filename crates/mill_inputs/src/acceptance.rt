@@ -32,8 +32,8 @@ pub struct Accepted {
     pub outline: Option<Vec<Painted>>,
 }
 
-// What a word outside the grammar is to the command. A number past 4,294,967,295 is told by no status.
-fn usage(number: usize) -> Status
+/// What a word outside the grammar is to a command. A number past 4,294,967,295 is told by no status.
+pub fn usage(number: usize) -> Status
     ensures { (result ≡ Status.Usage number) ⊎ (result ≡ Status.Memory) }
 {
     match u32::try_from(number) {
@@ -42,8 +42,8 @@ fn usage(number: usize) -> Status
     }
 }
 
-// What a refusal of a job is to the command.
-fn refusal(error: JobError) -> Status
+/// What a refusal of a job is to a command.
+pub fn job_refusal(error: JobError) -> Status
     ensures { result ≡ job_refused error.kind error }
 {
     match error.kind {
@@ -60,7 +60,7 @@ fn read_job(alloc: Global, bytes: &[u8], words: &Vec<String>) -> Result<Job, Sta
 {
     match job_file::read_job(alloc, bytes, words, None) {
         Ok(job) => Ok(job),
-        Err(error) => Err(refusal(error)),
+        Err(error) => Err(job_refusal(error)),
     }
 }
 

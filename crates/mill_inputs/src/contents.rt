@@ -25,8 +25,8 @@ fn image_refusal(role: Role, error: GerberError) -> Status
     }
 }
 
-// The image of a file.
-fn read_image(alloc: Global, role: Role, bytes: &[u8]) -> Result<Vec<Painted>, Status>
+/// The image of a file.
+pub fn read_image(alloc: Global, role: Role, bytes: &[u8]) -> Result<Vec<Painted>, Status>
     ensures made { MakesOf (λ v. v.items) (image role bytes.now) result }
 {
     match gerber_image::read_image(alloc, bytes) {

@@ -8,5 +8,7 @@ mod contents;
 mod inputs;
 mod words;
 
-pub use acceptance::{Accepted, accept};
-pub use words::read_words;
+pub use acceptance::{Accepted, accept, job_refusal, usage};
+pub use contents::read_image;
+pub use inputs::read_job_text;
+pub use words::{read_place, read_rest, read_words};

@@ -1,5 +1,5 @@
 // The words of `mill`.
-ghost use Rattle.std.specs.Prelude.{◌≡◌, MatchResult, drop, not, string_bytes};
+ghost use Rattle.std.specs.Prelude.{◌≡◌, ◌≤◌, MatchResult, drop, not, string_bytes};
 ghost use Rattle.std.specs.List.{position};
 ghost use Rattle.std.specs.Option.{option_copied};
 ghost use Rattle.job_file.specs.Reading.{texts};
@@ -16,18 +16,18 @@ fn is_job_word(word: &[u8]) -> bool
     is_dashed(word) && split_once(word, b'=').is_some()
 }
 
-// The place, from the third word on, of the first that isn't a line of the job.
-fn first_other(words: &Vec<String>) -> Option<usize>
-    ensures { result ≡ position (λ w. not (is_job_word_in (string_bytes w))) (drop 2 words.now.items) }
+// The place, behind so many words, of the first that isn't a line of the job.
+fn first_other(words: &Vec<String>, before: usize) -> Option<usize>
+    ensures { result ≡ position (λ w. not (is_job_word_in (string_bytes w))) (drop before words.now.items) }
 {
     words
         .iter()
-        .skip(2)
+        .skip(before)
         .position(|word| !is_job_word(word.as_bytes()))
 }
 
-// Where the job stands by the second word, or the number of that word.
-fn read_place<'a>(words: &'a Vec<String>) -> Result<Option<&'a str>, usize>
+/// Where the job stands by the second word, or the number of that word.
+pub fn read_place<'a>(words: &'a Vec<String>) -> Result<Option<&'a str>, usize>
     ensures { MatchResult result
         (λ place. word 2 job_place (texts words.now) ≡ Ok (option_copied place))
         (λ number. word 2 job_place (texts words.now) ≡ Err number) }
@@ -39,14 +39,15 @@ fn read_place<'a>(words: &'a Vec<String>) -> Result<Option<&'a str>, usize>
     }
 }
 
-// The number of the first word from the third on that isn't a line of the job.
-fn read_rest(words: &Vec<String>) -> Result<(), usize>
+/// The number of the first word, from the one with this number on, that isn't a line of the job.
+pub fn read_rest(words: &Vec<String>, number: usize) -> Result<(), usize>
+    requires { 1 ≤ number }
     ensures { MatchResult result
-        (λ _. job_words 3 (texts words.now) ≡ Ok 3)
-        (λ number. job_words 3 (texts words.now) ≡ Err number) }
+        (λ _. job_words number (texts words.now) ≡ Ok number)
+        (λ other. job_words number (texts words.now) ≡ Err other) }
 {
-    match first_other(words) {
-        Some(place) => Err(place + 3),
+    match first_other(words, number - 1) {
+        Some(place) => Err(place + number),
         None => Ok(()),
     }
 }
@@ -63,6 +64,6 @@ pub fn read_words<'a>(words: &'a Vec<String>) -> Result<Option<&'a str>, usize>
         return Err(1);
     }
     let place = read_place(words)?;
-    read_rest(words)?;
+    read_rest(words, 3)?;
     Ok(place)
 }

@@ -1,6 +1,6 @@
 -- What holds of what was accepted.
-use Rattle.std.proofs.Common.{◌≡◌, ℕ, List, Option, Some, None, Result, Ok, Err, refl, sym, ap, subst}
-use Rattle.std.specs.Prelude.{IfSome}
+use Rattle.std.proofs.Common.{◌≡◌, ℕ, List, Option, Some, None, Result, Ok, Err, refl, sym, ap, ◌∙◌, subst}
+use Rattle.std.specs.Prelude.{IfSome, is_some, ◌||◌, Bool, true, false}
 use Rattle.board_base.specs.Binds.{◌>>=◌}
 use Rattle.excellon.specs.Fits.{IsDrilled}
 use Rattle.excellon.specs.declared.file.DrillFile.{DrillFile}
@@ -23,8 +23,11 @@ use Rattle.endings.specs.declared.status.Status.{Status}
 use Rattle.endings.specs.Answers.{usage}
 use Rattle.endings.specs.Reads.{Reading}
 use Rattle.mill_inputs.specs.Words.{words_of}
-use Rattle.mill_inputs.specs.Accepted.{Accepts, IsDrillOf, job_bytes, job_or_refused, job_in, inputs_of, accepted, contents_of}
+use Rattle.mill_inputs.specs.Accepted.{Accepts, IsNamed, IsDrillOf, job_bytes, job_or_refused, job_in, inputs_of, accepted, contents_of}
 use Rattle.mill_inputs.proofs.ContentLaws.{AreOf, contents_there}
+use Rattle.mill_inputs.proofs.AcceptLaws.{whole_as}
+use Rattle.mill_plan.specs.Job.{IsSideJob}
+use Rattle.outline_plan.specs.Job.{IsOutlineJob}
 use Rattle.mill_outputs.proofs.DrilledLaws.{drilled_law}
 
 -- ---- the job
@@ -63,6 +66,7 @@ pub record IsAccepted (x : Accepts) : Type 0 where
   pub together : GoTogether None x.job
   pub drilled : IfSome x.drill IsDrilled
   pub stands : IsDrillOf x.drill
+  pub named : IsNamed x
 
 pub accepted_stands : (words : List (List ℕ)) (given : Reading) (x : Accepts) → accepted words given ≡ Ok x → IsAccepted x
 unfolding accepted
@@ -81,4 +85,25 @@ accepted_stands words given x e =
       together = subst (GoTogether None) its_job good.1;
       drilled = all_drilled x.drill contents.stands;
       stands = contents.stands;
+      named = (whole_as words given x e).named;
     }
+
+-- ---- jobs of sides and of outlines
+
+front_named : (front back : Bool) → front ≡ true → (front || back) ≡ true
+front_named front back e = rw e refl
+
+back_named : (front back : Bool) → back ≡ true → (front || back) ≡ true
+back_named true back e = refl
+back_named false back e = e
+
+-- where there is an image, the job is one of sides
+pub side_job : (x : Accepts) → IsAccepted x → (is_some x.front ≡ true → IsSideJob x.job) × (is_some x.back ≡ true → IsSideJob x.job)
+side_job x ok = (
+  λ there. record { ranges = ok.ranges; checked = None; together = ok.together; side = front_named (is_some (x.job).front) (is_some (x.job).back) (sym (ok.named).front ∙ there) },
+  λ there. record { ranges = ok.ranges; checked = None; together = ok.together; side = back_named (is_some (x.job).front) (is_some (x.job).back) (sym (ok.named).back ∙ there) },
+)
+
+-- and where there is an outline, one of outlines
+pub outline_job : (x : Accepts) → IsAccepted x → is_some x.outline ≡ true → IsOutlineJob x.job
+outline_job x ok there = record { ranges = ok.ranges; checked = None; together = ok.together; outline = sym (ok.named).outline ∙ there }

@@ -8,13 +8,14 @@ use Rattle.board_base.specs.Sink.{SinkState}
 use Rattle.shape_parts.specs.declared.shape.Painted.{Painted}
 use Rattle.mill_plan.specs.declared.limits.LimitHit.{LimitHit}
 use Rattle.endings.specs.declared.status.Status.{Status}
-use Rattle.endings.specs.declared.status.Status.TheVariants.{Done, Usage, Job, Gerber, Drill, Outline, TooLong, Limit, ReadFault, WriteFault, Ngc, Watch, Memory}
+use Rattle.endings.specs.declared.status.Status.TheVariants.{Done, Usage, Job, Gerber, Drill, Outline, TooLong, Limit, ReadFault, WriteFault, Ngc, Watch, Cell, Memory}
 use Rattle.endings.specs.Answers.{ToldAnd}
 use Rattle.endings.specs.Reads.{Reading, held_in}
 use Rattle.endings.specs.Ending.{Ending, refusal, Reaches}
 use Rattle.endings.specs.Run.{IsAnswer, Answers, HasCause}
 use Rattle.mill_inputs.specs.Accepted.{Accepts, accepted}
-use Rattle.mill_outputs.specs.Planned.{Passes, IsSide, IfGiven, ArePlanned}
+use Rattle.mill_outputs.specs.Planned.{Passes, IsSide, IfGiven}
+use Rattle.mill_outputs.specs.Written.{AreMade}
 use Rattle.mill_outputs.specs.Mill.{Ends}
 use Rattle.mill_outputs.proofs.MillLaws.{ends_refused, ends_limited, EndsAs, ends_as, EndsOf, ends_of}
 
@@ -36,18 +37,18 @@ pub refused_so : (words : List (List ℕ)) (files : Files) (result status : Stat
     → (result ≡ status) ⊎ (result ≡ Memory) ⊎ Rose before.read_faults now.read_faults
 refused_so words files result status before now k l answers bad = refusal_answered words files result status before now k l answers (ends_refused words (held_in files) status bad)
 
--- plans that are refused are answered by that refusal, which is a limit
+-- what is made and refused is answered by that refusal, which is a limit
 pub limited_so : (words : List (List ℕ)) (files : Files) (result : Status) (x : Accepts) (status : Status) (before now : ShelfState) (k l : SinkState) → Answers (Ends words) files result before now k l
-    → accepted words (held_in files) ≡ Ok x → ArePlanned x (Err status) → (result ≡ status) ⊎ (result ≡ Memory) ⊎ Rose before.read_faults now.read_faults
+    → accepted words (held_in files) ≡ Ok x → AreMade x (Err status) → (result ≡ status) ⊎ (result ≡ Memory) ⊎ Rose before.read_faults now.read_faults
 limited_so words files result x status before now k l answers good refused = refusal_answered words files result status before now k l answers (ends_limited words (held_in files) x status good refused)
 
 -- a front that passes a limit is such a refusal
-pub front_limited : (x : Accepts) (painted : List Painted) (hit : LimitHit) → x.front ≡ Some painted → Passes hit x.job painted → ArePlanned x (Err (Limit hit))
-front_limited x painted hit is passes = inl (subst (λ (image : Option (List Painted)). IfGiven image (IsSide x.job) (Err (Limit hit))) (sym is) (hit, refl, passes))
+pub front_limited : (x : Accepts) (painted : List Painted) (hit : LimitHit) → x.front ≡ Some painted → Passes hit x.job painted → AreMade x (Err (Limit hit))
+front_limited x painted hit is passes = inl (inl (subst (λ (image : Option (List Painted)). IfGiven image (IsSide x.job) (Err (Limit hit))) (sym is) (hit, refl, passes)))
 
--- what is accepted and whose plans aren't refused is carried out, where no fault was counted, unless memory was wanting
+-- what is accepted and whose plans and tiles aren't refused is carried out, where no fault was counted, unless memory was wanting
 pub complete_so : (words : List (List ℕ)) (files : Files) (result : Status) (x : Accepts) (before now : ShelfState) (k l : SinkState) → before.files ≡ Some files → HasCause (Ends words) result before now k l
-    → accepted words (held_in files) ≡ Ok x → ((status : Status) → ArePlanned x (Err status) → ⊥)
+    → accepted words (held_in files) ≡ Ok x → ((status : Status) → AreMade x (Err status) → ⊥)
     → (Rose before.read_faults now.read_faults → ⊥) → (Rose before.write_faults now.write_faults → ⊥) → (Rose k.faults l.faults → ⊥) → (result ≡ Done) ⊎ (result ≡ Memory)
 complete_so words files result x before now k l told cause good within no_read no_write no_put = by_result result cause
   where
@@ -80,6 +81,7 @@ complete_so words files result x before now k l told cause good within no_read n
     by_result (Outline error) cause = inl (sym (told_end (Outline error) cause))
     by_result (Ngc role fault line) cause = inl (sym (told_end (Ngc role fault line) cause))
     by_result (Watch watcher at) cause = inl (sym (told_end (Watch watcher at) cause))
+    by_result (Cell i j line) cause = inl (sym (told_end (Cell i j line) cause))
     by_result (Limit hit) cause = inl (sym (told_end (Limit hit) cause))
 
 -- the line of a refusal comes alone

@@ -1,4 +1,4 @@
--- The files of plans: their order, their names and their roles.
+-- The files of what is made: their order, their names and their roles.
 use Rattle.std.proofs.Common.{◌≡◌, inl, inr, ℕ, List, [], ◌∷◌, ◌++◌, Bool, true, false, Option, Some, None, codes, append_assoc, refl, sym, ◌∙◌, subst}
 use Rattle.std.specs.Str.{bytes_eq}
 use Rattle.std.proofs.lemmas.List.{append_cancel_left}
@@ -7,28 +7,29 @@ use Rattle.board_base.specs.declared.places.Role.{Role}
 use Rattle.board_base.specs.declared.places.Role.TheVariants as roles
 use Rattle.job_file.specs.declared.job.Job.{Job}
 use Rattle.endings.specs.Outputs.{Output, Writes}
-use Rattle.mill_outputs.specs.declared.plans.Plans.{Plans}
-use Rattle.mill_outputs.specs.Mill.{named, file_if, program_file, drill_file, outline_file, report_file, files_of}
-use Rattle.mill_outputs.proofs.PlanLaws.{AreAlike}
+use Rattle.mill_outputs.specs.declared.plans.Programs.{Programs}
+use Rattle.mill_outputs.specs.Written.{Made}
+use Rattle.mill_outputs.specs.Mill.{named, file_if, program_file, report_file, files_of}
 use Rattle.mill_outputs.proofs.StoredLaws.{Lacks, AreApart}
 
 -- ---- in a row
 
 -- the files, each before those behind it
-abbrev pub files_in_row : Job → Plans → List Output
-files_in_row job plans =
-    program_file job.basename roles.Front (codes "front.ngc") plans.front
-    ++ (program_file job.basename roles.Back (codes "back.ngc") plans.back
-    ++ (drill_file job plans.drill ++ (outline_file job.basename plans.outline ++ report_file job.basename plans ∷ [])))
+abbrev pub files_in_row : Job → Made → List Output
+files_in_row job made =
+    program_file job.basename roles.Front (codes "front.ngc") (made.programs).front
+    ++ (program_file job.basename roles.Back (codes "back.ngc") (made.programs).back
+    ++ (program_file job.basename roles.Drill (codes "drill.ngc") (made.programs).drill
+    ++ (program_file job.basename roles.Outline (codes "outline.ngc") (made.programs).outline ++ report_file job.basename made.plans ∷ [])))
 
-pub files_are : (job : Job) (plans : Plans) → files_of job plans ≡ files_in_row job plans
+pub files_are : (job : Job) (made : Made) → files_of job made ≡ files_in_row job made
 unfolding files_of
-files_are job plans =
-    let front = program_file job.basename roles.Front (codes "front.ngc") plans.front in
-    let back = program_file job.basename roles.Back (codes "back.ngc") plans.back in
-    let drill = drill_file job plans.drill in
-    let outline = outline_file job.basename plans.outline in
-    let report = report_file job.basename plans ∷ [] in
+files_are job made =
+    let front = program_file job.basename roles.Front (codes "front.ngc") (made.programs).front in
+    let back = program_file job.basename roles.Back (codes "back.ngc") (made.programs).back in
+    let drill = program_file job.basename roles.Drill (codes "drill.ngc") (made.programs).drill in
+    let outline = program_file job.basename roles.Outline (codes "outline.ngc") (made.programs).outline in
+    let report = report_file job.basename made.plans ∷ [] in
     append_assoc ((front ++ back) ++ drill) outline report ∙ append_assoc (front ++ back) drill (outline ++ report) ∙ append_assoc front back (drill ++ (outline ++ report))
 
 -- ---- names
@@ -62,55 +63,54 @@ apart_file : {A : Type 0} (name : List ℕ) (role : Role) (bytes : A → List �
 apart_file name role bytes None rest lacks apart = apart
 apart_file name role bytes (Some plan) rest lacks apart = (lacks, apart)
 
-row_apart : (job : Job) (plans : Plans) → AreApart (files_in_row job plans)
-row_apart job plans =
+row_apart : (job : Job) (made : Made) → AreApart (files_in_row job made)
+row_apart job made =
     let base = job.basename in
-    let report = report_file base plans ∷ [] in
-    let outline = outline_file base plans.outline ++ report in
-    let holes = drill_file job plans.drill ++ outline in
-    apart_file (named base (codes "front.ngc")) roles.Front _ plans.front (program_file base roles.Back (codes "back.ngc") plans.back ++ holes)
-    (lacks_file base (codes "front.ngc") (codes "back.ngc") roles.Back _ plans.back holes refl (behind_sides (codes "front.ngc") refl refl refl))
-    (apart_file (named base (codes "back.ngc")) roles.Back _ plans.back holes (behind_sides (codes "back.ngc") refl refl refl)
-    (apart_file (named base (codes "drill.ngc")) roles.Drill _ plans.drill outline (behind_holes (codes "drill.ngc") refl refl)
-    (apart_file (named base (codes "outline.ngc")) roles.Outline _ plans.outline report (named_apart base (codes "outline.ngc") (codes "report.txt") refl, tt) (tt, tt))))
+    let report = report_file base made.plans ∷ [] in
+    let outline = program_file base roles.Outline (codes "outline.ngc") (made.programs).outline ++ report in
+    let holes = program_file base roles.Drill (codes "drill.ngc") (made.programs).drill ++ outline in
+    apart_file (named base (codes "front.ngc")) roles.Front _ (made.programs).front (program_file base roles.Back (codes "back.ngc") (made.programs).back ++ holes)
+    (lacks_file base (codes "front.ngc") (codes "back.ngc") roles.Back _ (made.programs).back holes refl (behind_sides (codes "front.ngc") refl refl refl))
+    (apart_file (named base (codes "back.ngc")) roles.Back _ (made.programs).back holes (behind_sides (codes "back.ngc") refl refl refl)
+    (apart_file (named base (codes "drill.ngc")) roles.Drill _ (made.programs).drill outline (behind_holes (codes "drill.ngc") refl refl)
+    (apart_file (named base (codes "outline.ngc")) roles.Outline _ (made.programs).outline report (named_apart base (codes "outline.ngc") (codes "report.txt") refl, tt) (tt, tt))))
   where
     behind_holes : (name : List ℕ) → bytes_eq name (codes "outline.ngc") ≡ false → bytes_eq name (codes "report.txt") ≡ false
-        → Lacks (named job.basename name) (outline_file job.basename plans.outline ++ report_file job.basename plans ∷ [])
-    behind_holes name outline report = lacks_file job.basename name (codes "outline.ngc") roles.Outline _ plans.outline (report_file job.basename plans ∷ []) outline (named_apart job.basename name (codes "report.txt") report, tt)
+        → Lacks (named job.basename name) (program_file job.basename roles.Outline (codes "outline.ngc") (made.programs).outline ++ report_file job.basename made.plans ∷ [])
+    behind_holes name outline report = lacks_file job.basename name (codes "outline.ngc") roles.Outline _ (made.programs).outline (report_file job.basename made.plans ∷ []) outline (named_apart job.basename name (codes "report.txt") report, tt)
 
     behind_sides : (name : List ℕ) → bytes_eq name (codes "drill.ngc") ≡ false → bytes_eq name (codes "outline.ngc") ≡ false → bytes_eq name (codes "report.txt") ≡ false
-        → Lacks (named job.basename name) (drill_file job plans.drill ++ (outline_file job.basename plans.outline ++ report_file job.basename plans ∷ []))
-    behind_sides name drill outline report = lacks_file job.basename name (codes "drill.ngc") roles.Drill _ plans.drill (outline_file job.basename plans.outline ++ report_file job.basename plans ∷ []) drill (behind_holes name outline report)
+        → Lacks (named job.basename name) (program_file job.basename roles.Drill (codes "drill.ngc") (made.programs).drill
+        ++ (program_file job.basename roles.Outline (codes "outline.ngc") (made.programs).outline ++ report_file job.basename made.plans ∷ []))
+    behind_sides name drill outline report =
+        lacks_file job.basename name (codes "drill.ngc") roles.Drill _ (made.programs).drill
+        (program_file job.basename roles.Outline (codes "outline.ngc") (made.programs).outline ++ report_file job.basename made.plans ∷ []) drill (behind_holes name outline report)
 
 -- no two files have one name
-pub files_apart : (job : Job) (plans : Plans) → AreApart (files_of job plans)
-files_apart job plans = subst AreApart (sym (files_are job plans)) (row_apart job plans)
+pub files_apart : (job : Job) (made : Made) → AreApart (files_of job made)
+files_apart job made = subst AreApart (sym (files_are job made)) (row_apart job made)
 
 -- ---- roles
 
--- a file has the same role in other plans
-file_writes : {A : Type 0} (role own : Role) (name : List ℕ) (bytes : A → List ℕ) (one other : Option A) (rest more : List Output) → AreAlike one other → (Writes role rest → Writes role more)
-    → Writes role (file_if own name bytes one ++ rest) → Writes role (file_if own name bytes other ++ more)
-file_writes role own name bytes None None rest more alike later w = later w
-file_writes role own name bytes (Some one) (Some other) rest more alike later (inl here) = inl here
-file_writes role own name bytes (Some one) (Some other) rest more alike later (inr w) = inr (later w)
-file_writes role own name bytes None (Some other) rest more alike later w = absurd alike
-file_writes role own name bytes (Some one) None rest more alike later w = absurd alike
+-- a file has its role whatever comes behind it
+file_writes : {A : Type 0} (role own : Role) (name : List ℕ) (bytes : A → List ℕ) (program : Option A) (rest more : List Output) → (Writes role rest → Writes role more)
+    → Writes role (file_if own name bytes program ++ rest) → Writes role (file_if own name bytes program ++ more)
+file_writes role own name bytes None rest more later w = later w
+file_writes role own name bytes (Some program) rest more later (inl here) = inl here
+file_writes role own name bytes (Some program) rest more later (inr w) = inr (later w)
 
--- all files are there in both plans, or in neither
-abbrev pub HaveAlike : Plans → Plans → Type 0
-HaveAlike one other = AreAlike one.front other.front × AreAlike one.back other.back × AreAlike one.drill other.drill × AreAlike one.outline other.outline
-
--- other plans for the same have files of the same roles
-pub same_writes : (role : Role) (job : Job) (one other : Plans) → HaveAlike one other → Writes role (files_of job one) → Writes role (files_of job other)
-same_writes role job one other alike w = subst (Writes role) (sym (files_are job other)) (in_row (subst (Writes role) (files_are job one) w))
+-- the same programs with another report are files of the same roles
+pub same_writes : (role : Role) (job : Job) (one other : Made) → one.programs ≡ other.programs → Writes role (files_of job one) → Writes role (files_of job other)
+same_writes role job one other same w =
+    subst (Writes role) (sym (files_are job other))
+    (subst (λ (programs : Programs). Writes role (files_in_row job (record { plans = other.plans; programs = programs }))) same (in_row (subst (Writes role) (files_are job one) w)))
   where
-    in_row : Writes role (files_in_row job one) → Writes role (files_in_row job other)
+    in_row : Writes role (files_in_row job one) → Writes role (files_in_row job (record { plans = other.plans; programs = one.programs }))
     in_row =
-        file_writes role roles.Front _ _ one.front other.front _ _ alike.0
-        (file_writes role roles.Back _ _ one.back other.back _ _ alike.1
-        (file_writes role roles.Drill _ _ one.drill other.drill _ _ alike.2
-        (file_writes role roles.Outline _ _ one.outline other.outline (report_file job.basename one ∷ []) (report_file job.basename other ∷ []) alike.3 (λ w. w))))
+        file_writes role roles.Front _ _ (one.programs).front _ _
+        (file_writes role roles.Back _ _ (one.programs).back _ _
+        (file_writes role roles.Drill _ _ (one.programs).drill _ _
+        (file_writes role roles.Outline _ _ (one.programs).outline (report_file job.basename one.plans ∷ []) (report_file job.basename other.plans ∷ []) (λ w. w))))
 
 -- a file hasn't the role of the lines
 file_not_lines : {A : Type 0} (own : Role) (name : List ℕ) (bytes : A → List ℕ) (plan : Option A) (rest : List Output) → (own ≡ roles.Lines → ⊥) → (Writes roles.Lines rest → ⊥) → Writes roles.Lines (file_if own name bytes plan ++ rest) → ⊥
@@ -119,13 +119,13 @@ file_not_lines own name bytes (Some plan) rest other none (inl here) = other her
 file_not_lines own name bytes (Some plan) rest other none (inr later) = none later
 
 -- no file has the role of the lines
-pub plans_not_lines : (job : Job) (plans : Plans) → Writes roles.Lines (files_of job plans) → ⊥
-plans_not_lines job plans w =
-    file_not_lines roles.Front _ _ plans.front _ not_front
-    (file_not_lines roles.Back _ _ plans.back _ not_back
-    (file_not_lines roles.Drill _ _ plans.drill _ not_drill
-    (file_not_lines roles.Outline _ _ plans.outline (report_file job.basename plans ∷ []) not_outline last)))
-    (subst (Writes roles.Lines) (files_are job plans) w)
+pub files_not_of_lines : (job : Job) (made : Made) → Writes roles.Lines (files_of job made) → ⊥
+files_not_of_lines job made w =
+    file_not_lines roles.Front _ _ (made.programs).front _ not_front
+    (file_not_lines roles.Back _ _ (made.programs).back _ not_back
+    (file_not_lines roles.Drill _ _ (made.programs).drill _ not_drill
+    (file_not_lines roles.Outline _ _ (made.programs).outline (report_file job.basename made.plans ∷ []) not_outline last)))
+    (subst (Writes roles.Lines) (files_are job made) w)
   where
     not_front : roles.Front ≡ roles.Lines → ⊥
     not_front e = cc
@@ -142,6 +142,6 @@ plans_not_lines job plans w =
     not_report : roles.Report ≡ roles.Lines → ⊥
     not_report e = cc
 
-    last : Writes roles.Lines (report_file job.basename plans ∷ []) → ⊥
+    last : Writes roles.Lines (report_file job.basename made.plans ∷ []) → ⊥
     last (inl here) = not_report here
     last (inr none) = none

@@ -1,5 +1,10 @@
 pub mod ReportLaws
 pub mod PlanLaws
+pub mod TextLaws
+pub mod NarrowLaws
+pub mod TileLaws
+pub mod AcceptedLaws
+pub mod MadeLaws
 pub mod MillLaws
 pub mod StoredLaws
 pub mod FileLaws
@@ -7,6 +12,6 @@ pub mod SideLaws
 pub mod HoleLaws
 pub mod BoardLaws
 pub mod DrilledLaws
-pub mod AcceptedLaws
 pub mod HeadlineLaws
 pub mod AnswerLaws
+pub mod MakeLaws

@@ -8,7 +8,7 @@ use Rattle.board_base.specs.Shelf.{ShelfState, OnlyReads}
 use Rattle.mill_plan.specs.declared.limits.LimitHit.{LimitHit}
 use Rattle.outline_loops.specs.declared.refusals.OutlineError.{OutlineError}
 use Rattle.endings.specs.declared.status.Status.{Status}
-use Rattle.endings.specs.declared.status.Status.TheVariants.{Done, Usage, Job as RefusedJob, Gerber, Drill as RefusedDrill, Outline as RefusedOutline, TooLong, Limit, ReadFault, WriteFault, Ngc, Watch, Memory}
+use Rattle.endings.specs.declared.status.Status.TheVariants.{Done, Usage, Job as RefusedJob, Gerber, Drill as RefusedDrill, Outline as RefusedOutline, TooLong, Limit, ReadFault, WriteFault, Ngc, Watch, Cell, Memory}
 use Rattle.endings.specs.Answers.{IfTold}
 use Rattle.endings.specs.Outputs.{Output, all_stored, IsStopped, Stops, Writes}
 use Rattle.endings.specs.Reads.{Reading, held_in, MayRead, without}
@@ -21,11 +21,12 @@ use Rattle.mill_inputs.specs.Words.{words_of}
 use Rattle.mill_inputs.specs.Accepted.{Accepts, accepted}
 use Rattle.mill_inputs.proofs.ContentLaws.{ok_is}
 use Rattle.mill_inputs.proofs.AcceptLaws.{accepted_not_done}
-use Rattle.mill_outputs.specs.declared.plans.Plans.{Plans}
-use Rattle.mill_outputs.specs.Planned.{ArePlanned}
+use Rattle.mill_outputs.specs.Written.{OneOfEach, Made, AreMade}
 use Rattle.mill_outputs.specs.Mill.{files_of, Milled, Answered, ending_of, Ends, AreFilesOf}
-use Rattle.mill_outputs.proofs.PlanLaws.{IsPlanRefusal, planned_apart, planned_refusal, planned_alike}
-use Rattle.mill_outputs.proofs.FileLaws.{same_writes, plans_not_lines}
+use Rattle.mill_outputs.proofs.PlanLaws.{IsPlanRefusal}
+use Rattle.mill_outputs.proofs.AcceptedLaws.{IsAccepted, accepted_stands}
+use Rattle.mill_outputs.proofs.MadeLaws.{made_apart, made_refusal, programs_same}
+use Rattle.mill_outputs.proofs.FileLaws.{same_writes, files_not_of_lines}
 
 -- ---- the three endings
 
@@ -33,23 +34,23 @@ pub ends_refused : (words : List (List ℕ)) (given : Reading) (status : Status)
 unfolding Ends
 ends_refused words given status e = (Err status, inl (sym e), refl)
 
-pub ends_limited : (words : List (List ℕ)) (given : Reading) (x : Accepts) (status : Status) → accepted words given ≡ Ok x → ArePlanned x (Err status) → Ends words given (refusal status)
+pub ends_limited : (words : List (List ℕ)) (given : Reading) (x : Accepts) (status : Status) → accepted words given ≡ Ok x → AreMade x (Err status) → Ends words given (refusal status)
 unfolding Ends
 ends_limited words given x status e refused = (Err status, inr (x, sym e, inl refused), refl)
 
-pub ends_done : (words : List (List ℕ)) (given : Reading) (m : Milled) → accepted words given ≡ Ok m.accepts → ArePlanned m.accepts (Ok m.plans) → Ends words given (ending_of (Ok m))
+pub ends_done : (words : List (List ℕ)) (given : Reading) (m : Milled) → accepted words given ≡ Ok m.accepts → AreMade m.accepts (Ok m.made) → Ends words given (ending_of (Ok m))
 unfolding Ends
-ends_done words given m e planned = (Ok m, (m.accepts, sym e, (m.plans, planned, refl)), refl)
+ends_done words given m e planned = (Ok m, (m.accepts, sym e, (m.made, planned, refl)), refl)
 
 -- what was accepted and planned for it
 abbrev pub IsMilled : List (List ℕ) → Reading → Milled → Type 0
-IsMilled words given m = (accepted words given ≡ Ok m.accepts) × ArePlanned m.accepts (Ok m.plans)
+IsMilled words given m = (accepted words given ≡ Ok m.accepts) × AreMade m.accepts (Ok m.made)
 
--- an ending by the words and files, by a limit, or of plans
+-- an ending by the words and files, by a limit, or of what is made
 abbrev pub EndsAs : List (List ℕ) → Reading → Ending → Type 0
 EndsAs words given e =
     ((status : Status) × (accepted words given ≡ Err status) × (e ≡ refusal status))
-    ⊎ ((x : Accepts) × (status : Status) × (accepted words given ≡ Ok x) × ArePlanned x (Err status) × (e ≡ refusal status))
+    ⊎ ((x : Accepts) × (status : Status) × (accepted words given ≡ Ok x) × AreMade x (Err status) × (e ≡ refusal status))
     ⊎ ((m : Milled) × IsMilled words given m × (e ≡ ending_of (Ok m)))
 
 ok_of_err : {A : Type 0} (a : A) (status : Status) → ◌≡◌ {A = Result A Status} (Err status) (Ok a) → ⊥
@@ -60,21 +61,21 @@ pub ends_as : (words : List (List ℕ)) (given : Reading) (e : Ending) → Ends 
 unfolding Ends
 ends_as words given e ends = by_answer ends.0 ends.1 ends.2
   where
-    milled : (x : Accepts) (plans : Plans) (m : Milled) → accepted words given ≡ Ok x → ArePlanned x (Ok plans) → m ≡ record { accepts = x; plans = plans } → IsMilled words given m
-    milled x plans m good planned is = subst (IsMilled words given) (sym is) (good, planned)
+    milled : (x : Accepts) (made : Made) (m : Milled) → accepted words given ≡ Ok x → AreMade x (Ok made) → m ≡ record { accepts = x; made = made } → IsMilled words given m
+    milled x made m good planned is = subst (IsMilled words given) (sym is) (good, planned)
 
     by_answer : (answer : Result Milled Status) → Answered words given answer → e ≡ ending_of answer → EndsAs words given e
     by_answer (Ok m) steps is =
         let rest = steps.2 in
-        inr (inr (m, milled steps.0 rest.0 m (sym steps.1) rest.1 (ok_is m (record { accepts = steps.0; plans = rest.0 }) rest.2), is))
+        inr (inr (m, milled steps.0 rest.0 m (sym steps.1) rest.1 (ok_is m (record { accepts = steps.0; made = rest.0 }) rest.2), is))
     by_answer (Err status) (inl refused) is = inl (status, sym refused, is)
     by_answer (Err status) (inr (x, good, inl limited)) is = inr (inl (x, status, sym good, limited, is))
-    by_answer (Err status) (inr (x, good, inr (plans, planned, made))) is = absurd (ok_of_err (record { accepts = x; plans = plans }) status made)
+    by_answer (Err status) (inr (x, good, inr (made, planned, last))) is = absurd (ok_of_err (record { accepts = x; made = made }) status last)
 
 pub status_is : (e f : Ending) → e ≡ f → e.status ≡ f.status
 status_is e f same = ap (λ (e : Ending). e.status) same
 
--- only plans end with Done
+-- only what is made ends with Done
 pub of_done : (words : List (List ℕ)) (given : Reading) (e : Ending) → Ends words given e → e.status ≡ Done → (m : Milled) × IsMilled words given m × (e ≡ ending_of (Ok m))
 of_done words given e ends done = by_case (ends_as words given e ends)
   where
@@ -90,7 +91,7 @@ of_done words given e ends done = by_case (ends_as words given e ends)
 
     by_case : EndsAs words given e → (m : Milled) × IsMilled words given m × (e ≡ ending_of (Ok m))
     by_case (inl refused) = absurd (accepted_not_done words given (refused.1 ∙ ap Err (sym (status_is e (refusal refused.0) refused.2) ∙ done)))
-    by_case (inr (inl limited)) = absurd (not_done limited.1 (planned_refusal limited.0 limited.1 limited.3) (sym (status_is e (refusal limited.1) limited.4) ∙ done))
+    by_case (inr (inl limited)) = absurd (not_done limited.1 (made_refusal limited.0 limited.1 limited.3) (sym (status_is e (refusal limited.1) limited.4) ∙ done))
     by_case (inr (inr milled)) = milled
 
 -- which puts ok
@@ -120,34 +121,34 @@ refused_alone words given status e bad ends = by_case (ends_as words given e end
     by_case (inr (inl limited)) = absurd (other_end words given limited.0 status limited.2 bad)
     by_case (inr (inr milled)) = absurd (other_end words given (milled.0).accepts status (milled.1).0 bad)
 
--- what was accepted ends by the answer of its plans
+-- what was accepted ends by the answer of what is made of it
 abbrev pub EndsOf : Accepts → Ending → Type 0
 EndsOf x e =
-    ((status : Status) × ArePlanned x (Err status) × (e ≡ refusal status))
-    ⊎ ((plans : Plans) × ArePlanned x (Ok plans) × (e ≡ ending_of (Ok (record { accepts = x; plans = plans }))))
+    ((status : Status) × AreMade x (Err status) × (e ≡ refusal status))
+    ⊎ ((made : Made) × AreMade x (Ok made) × (e ≡ ending_of (Ok (record { accepts = x; made = made }))))
 
 pub ends_of : (words : List (List ℕ)) (given : Reading) (x : Accepts) (e : Ending) → accepted words given ≡ Ok x → Ends words given e → EndsOf x e
 ends_of words given x e good ends = by_case (ends_as words given e ends)
   where
     by_case : EndsAs words given e → EndsOf x e
     by_case (inl refused) = absurd (other_end words given x refused.0 good refused.1)
-    by_case (inr (inl limited)) = inl (limited.1, subst (λ (y : Accepts). ArePlanned y (Err limited.1)) (one_accepted words given limited.0 x limited.2 good) limited.3, limited.4)
+    by_case (inr (inl limited)) = inl (limited.1, subst (λ (y : Accepts). AreMade y (Err limited.1)) (one_accepted words given limited.0 x limited.2 good) limited.3, limited.4)
     by_case (inr (inr milled)) =
         let m = milled.0 in
         let same = one_accepted words given m.accepts x (milled.1).0 good in
         inr (
-          m.plans,
-          subst (λ (y : Accepts). ArePlanned y (Ok m.plans)) same (milled.1).1,
-          milled.2 ∙ ap (λ (y : Accepts). ending_of (Ok (record { accepts = y; plans = m.plans }))) same,
+          m.made,
+          subst (λ (y : Accepts). AreMade y (Ok m.made)) same (milled.1).1,
+          milled.2 ∙ ap (λ (y : Accepts). ending_of (Ok (record { accepts = y; made = m.made }))) same,
         )
 
--- what is planned ends with plans
-pub planned_alone : (words : List (List ℕ)) (given : Reading) (x : Accepts) (plans : Plans) (e : Ending) → accepted words given ≡ Ok x → ArePlanned x (Ok plans) → Ends words given e
-    → (other : Plans) × ArePlanned x (Ok other) × (e ≡ ending_of (Ok (record { accepts = x; plans = other })))
-planned_alone words given x plans e good planned ends = by_case (ends_of words given x e good ends)
+-- what is made ends with what is made
+pub made_alone : OneOfEach → (words : List (List ℕ)) (given : Reading) (x : Accepts) (made : Made) (e : Ending) → accepted words given ≡ Ok x → AreMade x (Ok made) → Ends words given e
+    → (other : Made) × AreMade x (Ok other) × (e ≡ ending_of (Ok (record { accepts = x; made = other })))
+made_alone law words given x made e good planned ends = by_case (ends_of words given x e good ends)
   where
-    by_case : EndsOf x e → (other : Plans) × ArePlanned x (Ok other) × (e ≡ ending_of (Ok (record { accepts = x; plans = other })))
-    by_case (inl limited) = absurd (planned_apart x plans limited.0 planned limited.1)
+    by_case : EndsOf x e → (other : Made) × AreMade x (Ok other) × (e ≡ ending_of (Ok (record { accepts = x; made = other })))
+    by_case (inl limited) = absurd (made_apart law x (accepted_stands words given x good) made limited.0 planned limited.1)
     by_case (inr other) = other
 
 -- ---- what is answered
@@ -183,6 +184,7 @@ answers_refused words status before now files told r e ends = by_status status r
     by_status (RefusedOutline error) r = so (RefusedOutline error) r
     by_status (Ngc role fault line) r = so (Ngc role fault line) r
     by_status (Watch watcher at) r = so (Watch watcher at) r
+    by_status (Cell i j line) r = so (Cell i j line) r
     by_status (Limit hit) r = so (Limit hit) r
     by_status (TooLong role) r = so (TooLong role) r.0
     by_status (ReadFault role) (inl r) =
@@ -194,44 +196,44 @@ answers_refused words status before now files told r e ends = by_status status r
 pub refusal_answers : (words : List (List ℕ)) (status : Status) (before now : ShelfState) → Refuses (λ given s. accepted words given ≡ Err s) status before now → AnswersAll words status before now
 refusal_answers words status before now r = answers_all words status before now (λ files told. answers_refused words status before now files told r)
 
--- where the plans are refused
+-- where what is made is refused
 pub plan_answers : (words : List (List ℕ)) (x : Accepts) (status : Status) (before now : ShelfState) → (given : Reading) × MayRead before.files given × (accepted words given ≡ Ok x)
-    → ((answer : Result Plans Status) → ArePlanned x answer → (status ≡ Memory) ⊎ (answer ≡ Err status)) → AnswersAll words status before now
+    → ((answer : Result Made Status) → AreMade x answer → (status ≡ Memory) ⊎ (answer ≡ Err status)) → AnswersAll words status before now
 plan_answers words x status before now r only = answers_all words status before now (λ files told e ends. by_case files e (ends_of words (held_in files) x e (accepted_told words x before files r told) ends))
   where
-    by_limit : (files : Files) (e : Ending) (s : Status) → e ≡ refusal s → (status ≡ Memory) ⊎ (◌≡◌ {A = Result Plans Status} (Err s) (Err status)) → IsAnswer (Ends words) files e status before now
+    by_limit : (files : Files) (e : Ending) (s : Status) → e ≡ refusal s → (status ≡ Memory) ⊎ (◌≡◌ {A = Result Made Status} (Err s) (Err status)) → IsAnswer (Ends words) files e status before now
     by_limit files e s is (inl memory) = inr (inl memory)
     by_limit files e s is (inr same) = inl (sym (one s status same) ∙ sym (status_is e (refusal s) is))
       where
-        one : (s t : Status) → ◌≡◌ {A = Result Plans Status} (Err s) (Err t) → s ≡ t
+        one : (s t : Status) → ◌≡◌ {A = Result Made Status} (Err s) (Err t) → s ≡ t
         one s t e = cc
 
-    by_plans : (files : Files) (e : Ending) (plans : Plans) → (status ≡ Memory) ⊎ (◌≡◌ {A = Result Plans Status} (Ok plans) (Err status)) → IsAnswer (Ends words) files e status before now
-    by_plans files e plans (inl memory) = inr (inl memory)
-    by_plans files e plans (inr other) = absurd (ok_of_err plans status (sym other))
+    by_made : (files : Files) (e : Ending) (made : Made) → (status ≡ Memory) ⊎ (◌≡◌ {A = Result Made Status} (Ok made) (Err status)) → IsAnswer (Ends words) files e status before now
+    by_made files e made (inl memory) = inr (inl memory)
+    by_made files e made (inr other) = absurd (ok_of_err made status (sym other))
 
     by_case : (files : Files) (e : Ending) → EndsOf x e → IsAnswer (Ends words) files e status before now
     by_case files e (inl limited) = by_limit files e limited.0 limited.2 (only (Err limited.0) limited.1)
-    by_case files e (inr planned) = by_plans files e planned.0 (only (Ok planned.0) planned.1)
+    by_case files e (inr planned) = by_made files e planned.0 (only (Ok planned.0) planned.1)
 
 -- where memory is wanting
 pub memory_answers : (words : List (List ℕ)) (before now : ShelfState) → AnswersAll words Memory before now
 memory_answers words before now = answers_all words Memory before now (λ files told e ends. inr (inl refl))
 
 -- the ending of what files were made for
-files_alone : (words : List (List ℕ)) (given : Reading) (x : Accepts) (outputs : List Output) (e : Ending) → accepted words given ≡ Ok x → AreFilesOf x outputs → Ends words given e
-    → (other : Plans) × ArePlanned x (Ok other) × (e ≡ ending_of (Ok (record { accepts = x; plans = other })))
+files_alone : OneOfEach → (words : List (List ℕ)) (given : Reading) (x : Accepts) (outputs : List Output) (e : Ending) → accepted words given ≡ Ok x → AreFilesOf x outputs → Ends words given e
+    → (other : Made) × AreMade x (Ok other) × (e ≡ ending_of (Ok (record { accepts = x; made = other })))
 unfolding AreFilesOf
-files_alone words given x outputs e good made ends = planned_alone words given x made.0 e good made.1 ends
+files_alone law words given x outputs e good made ends = made_alone law words given x made.0 e good made.1 ends
 
 -- where all files are written
-pub done_answers : (words : List (List ℕ)) (x : Accepts) (outputs : List Output) (before now : ShelfState) → (given : Reading) × MayRead before.files given × (accepted words given ≡ Ok x) → AreFilesOf x outputs
+pub done_answers : OneOfEach → (words : List (List ℕ)) (x : Accepts) (outputs : List Output) (before now : ShelfState) → (given : Reading) × MayRead before.files given × (accepted words given ≡ Ok x) → AreFilesOf x outputs
     → AnswersAll words Done before now
-done_answers words x outputs before now r made =
-    answers_all words Done before now (λ files told e ends. inl (done e (files_alone words (held_in files) x outputs e (accepted_told words x before files r told) made ends)))
+done_answers law words x outputs before now r made =
+    answers_all words Done before now (λ files told e ends. inl (done e (files_alone law words (held_in files) x outputs e (accepted_told words x before files r told) made ends)))
   where
-    done : (e : Ending) → (other : Plans) × ArePlanned x (Ok other) × (e ≡ ending_of (Ok (record { accepts = x; plans = other }))) → Done ≡ e.status
-    done e other = sym (status_is e (ending_of (Ok (record { accepts = x; plans = other.0 }))) other.2)
+    done : (e : Ending) → (other : Made) × AreMade x (Ok other) × (e ≡ ending_of (Ok (record { accepts = x; made = other }))) → Done ≡ e.status
+    done e other = sym (status_is e (ending_of (Ok (record { accepts = x; made = other.0 }))) other.2)
 
 -- a write that was refused is of one of the files
 stopped_writes : (role : Role) (outputs : List Output) (before now : Option Files) → IsStopped role outputs before now → Writes role outputs
@@ -239,25 +241,27 @@ stopped_writes role [] before now stopped = stopped
 stopped_writes role (output ∷ outputs) before now (inl here) = inl here.0
 stopped_writes role (output ∷ outputs) before now (inr later) = inr (stopped_writes role outputs (stored output.name output.bytes before) now later)
 
-files_stopped : (x : Accepts) (role : Role) (outputs : List Output) (other : Plans) (before now : Option Files) → AreFilesOf x outputs → ArePlanned x (Ok other) → IsStopped role outputs before now
+files_stopped : OneOfEach → (x : Accepts) → IsAccepted x → (role : Role) (outputs : List Output) (other : Made) (before now : Option Files) → AreFilesOf x outputs → AreMade x (Ok other) → IsStopped role outputs before now
     → Writes role (files_of x.job other)
 unfolding AreFilesOf
-files_stopped x role outputs other before now made planned stopped =
-    let alike = planned_alike x made.0 other made.1 planned in
-    same_writes role x.job made.0 other alike (subst (Writes role) made.2 (stopped_writes role outputs before now stopped))
+files_stopped law x ok role outputs other before now made again stopped =
+    same_writes role x.job made.0 other (programs_same law x ok made.0 other made.1 again) (subst (Writes role) made.2 (stopped_writes role outputs before now stopped))
 
 -- where a write is refused
-pub stop_answers : (words : List (List ℕ)) (x : Accepts) (outputs : List Output) (status : Status) (before between now : ShelfState) → (given : Reading) × MayRead before.files given × (accepted words given ≡ Ok x) → AreFilesOf x outputs
+pub stop_answers : OneOfEach → (words : List (List ℕ)) (x : Accepts) (outputs : List Output) (status : Status) (before between now : ShelfState) → (given : Reading) × MayRead before.files given × (accepted words given ≡ Ok x) → AreFilesOf x outputs
     → between.write_faults ≡ before.write_faults → Stops status outputs between now → AnswersAll words status before now
-stop_answers words x outputs status before between now r made same stops = by_status status stops
+stop_answers law words x outputs status before between now r made same stops = by_status status stops
   where
-    so : (role : Role) → Stops (WriteFault role) outputs between now → (files : Files) (e : Ending) → (other : Plans) × ArePlanned x (Ok other) × (e ≡ ending_of (Ok (record { accepts = x; plans = other })))
+    ok : IsAccepted x
+    ok = accepted_stands words r.0 x r.2
+
+    so : (role : Role) → Stops (WriteFault role) outputs between now → (files : Files) (e : Ending) → (other : Made) × AreMade x (Ok other) × (e ≡ ending_of (Ok (record { accepts = x; made = other })))
         → IsAnswer (Ends words) files e (WriteFault role) before now
     so role stops files e other =
         inr (inr (inr (
           role,
           refl,
-          subst (λ (e : Ending). Writes role e.outputs) (sym other.2) (files_stopped x role outputs other.0 between.files now.files made other.1 stops.1),
+          subst (λ (e : Ending). Writes role e.outputs) (sym other.2) (files_stopped law x ok role outputs other.0 between.files now.files made other.1 stops.1),
           subst (λ n. Rose n now.write_faults) same stops.0,
         )))
 
@@ -270,13 +274,14 @@ stop_answers words x outputs status before between now r made same stops = by_st
     by_status (RefusedOutline error) stops = absurd stops
     by_status (Ngc role fault line) stops = absurd stops
     by_status (Watch watcher at) stops = absurd stops
+    by_status (Cell i j line) stops = absurd stops
     by_status (TooLong role) stops = absurd stops
     by_status (Limit hit) stops = absurd stops
     by_status (ReadFault role) stops = absurd stops
     by_status Memory stops = memory_answers words before now
     by_status (WriteFault role) stops =
         answers_all words (WriteFault role) before now
-        (λ files told e ends. so role stops files e (files_alone words (held_in files) x outputs e (accepted_told words x before files r told) made ends))
+        (λ files told e ends. so role stops files e (files_alone law words (held_in files) x outputs e (accepted_told words x before files r told) made ends))
 
 -- ---- what is done before any line is put
 
@@ -285,18 +290,18 @@ refusal_works words status before now keeps r =
     works_refused (Ends words) status before now keeps (refuses_weaker (λ given s. accepted words given ≡ Err s) (λ given s. Ends words given (refusal s)) status before now (ends_refused words) r)
 
 pub plan_works : (words : List (List ℕ)) (x : Accepts) (status : Status) (before now : ShelfState) → OnlyReads before now → (given : Reading) × MayRead before.files given × (accepted words given ≡ Ok x)
-    → (status ≡ Memory) ⊎ ArePlanned x (Err status) → Works (Ends words) status before now
+    → (status ≡ Memory) ⊎ AreMade x (Err status) → Works (Ends words) status before now
 plan_works words x status before now keeps r (inl memory) = subst (λ s. Works (Ends words) s before now) (sym memory) (inl keeps.files)
-plan_works words x status before now keeps r (inr refused) = by_kind (planned_refusal x status refused)
+plan_works words x status before now keeps r (inr refused) = by_kind (made_refusal x status refused)
   where
     ends : (s : Status) → status ≡ s → (given : Reading) × MayRead before.files given × Ends words given (refusal s)
-    ends s is = (r.0, r.1, ends_limited words r.0 x s r.2 (subst (λ s. ArePlanned x (Err s)) is refused))
+    ends s is = (r.0, r.1, ends_limited words r.0 x s r.2 (subst (λ s. AreMade x (Err s)) is refused))
 
     by_kind : IsPlanRefusal status → Works (Ends words) status before now
     by_kind (inl limit) = subst (λ s. Works (Ends words) s before now) (sym limit.1) (keeps.files, keeps.writes, ends (Limit limit.0) limit.1)
     by_kind (inr outline) = subst (λ s. Works (Ends words) s before now) (sym outline.1) (keeps.files, keeps.writes, ends (RefusedOutline outline.0) outline.1)
 
--- a refusal of plans is no usage
+-- such a refusal is no usage
 not_usage : (status : Status) (word : ℕ) → (status ≡ Memory) ⊎ IsPlanRefusal status → status ≡ Usage word → ⊥
 not_usage status word (inl memory) e = apart (sym memory ∙ e)
   where
@@ -311,12 +316,12 @@ not_usage status word (inr (inr outline)) e = apart outline.0 (sym outline.1 ∙
     apart : (error : OutlineError) → RefusedOutline error ≡ Usage word → ⊥
     apart error e = cc
 
-pub plan_usage : (words : List (List ℕ)) (x : Accepts) (status : Status) → IsExactUsage (words_of words) Done → (status ≡ Memory) ⊎ ArePlanned x (Err status) → IsExactUsage (words_of words) status
+pub plan_usage : (words : List (List ℕ)) (x : Accepts) (status : Status) → IsExactUsage (words_of words) Done → (status ≡ Memory) ⊎ AreMade x (Err status) → IsExactUsage (words_of words) status
 plan_usage words x status accepted refused = record { only = λ word e. absurd (not_usage status word (kind refused) e); comes = λ word e. absurd (never word (accepted.comes word e)) }
   where
-    kind : (status ≡ Memory) ⊎ ArePlanned x (Err status) → (status ≡ Memory) ⊎ IsPlanRefusal status
+    kind : (status ≡ Memory) ⊎ AreMade x (Err status) → (status ≡ Memory) ⊎ IsPlanRefusal status
     kind (inl memory) = inl memory
-    kind (inr refused) = inr (planned_refusal x status refused)
+    kind (inr refused) = inr (made_refusal x status refused)
 
     never : (word : ℕ) → (Done ≡ Usage word) ⊎ (Done ≡ Memory) → ⊥
     never word (inl e) = cc
@@ -326,7 +331,7 @@ files_end : (words : List (List ℕ)) (x : Accepts) (outputs : List Output) (giv
     → (e : Ending) × Ends words given e × (e.status ≡ Done) × (outputs ≡ e.outputs)
 unfolding AreFilesOf
 files_end words x outputs given e made =
-    let m : Milled = record { accepts = x; plans = made.0 } in
+    let m : Milled = record { accepts = x; made = made.0 } in
     (ending_of (Ok m), ends_done words given m e made.1, refl, made.2)
 
 pub done_works : (words : List (List ℕ)) (x : Accepts) (outputs : List Output) (before between now : ShelfState) → between.files ≡ before.files → (given : Reading) × MayRead before.files given × (accepted words given ≡ Ok x)
@@ -337,7 +342,7 @@ done_works words x outputs before between now same r made stored =
 
 files_not_lines : (x : Accepts) (outputs : List Output) (before now : Option Files) → AreFilesOf x outputs → IsStopped roles.Lines outputs before now → ⊥
 unfolding AreFilesOf
-files_not_lines x outputs before now made stopped = plans_not_lines x.job made.0 (subst (Writes roles.Lines) made.2 (stopped_writes roles.Lines outputs before now stopped))
+files_not_lines x outputs before now made stopped = files_not_of_lines x.job made.0 (subst (Writes roles.Lines) made.2 (stopped_writes roles.Lines outputs before now stopped))
 
 pub stop_works : (words : List (List ℕ)) (x : Accepts) (outputs : List Output) (status : Status) (before between now : ShelfState) → OnlyReads before between → (given : Reading) × MayRead before.files given × (accepted words given ≡ Ok x)
     → AreFilesOf x outputs → Stops status outputs between now → Works (Ends words) status before now
@@ -357,6 +362,7 @@ stop_works words x outputs status before between now keeps r made stops = by_sta
     by_status (RefusedOutline error) stops = absurd stops
     by_status (Ngc role fault line) stops = absurd stops
     by_status (Watch watcher at) stops = absurd stops
+    by_status (Cell i j line) stops = absurd stops
     by_status (TooLong role) stops = absurd stops
     by_status (Limit hit) stops = absurd stops
     by_status (ReadFault role) stops = absurd stops

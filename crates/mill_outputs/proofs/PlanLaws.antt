@@ -25,14 +25,14 @@ use Rattle.mill_outputs.specs.Planned.{Passes, IsSide, IfGiven, IsDrill, outline
 
 -- ---- answers
 
-ok_not_err : {A : Type 0} (a : A) (status : Status) → ◌≡◌ {A = Result A Status} (Ok a) (Err status) → ⊥
+pub ok_not_err : {A : Type 0} (a : A) (status : Status) → ◌≡◌ {A = Result A Status} (Ok a) (Err status) → ⊥
 ok_not_err a status e = cc
 
 pub err_not_ok : {A : Type 0} (a : A) (status : Status) → ◌≡◌ {A = Result A Status} (Err status) (Ok a) → ⊥
 err_not_ok a status e = cc
 
 -- the same refusal, of whatever was to be made
-err_as : {A B : Type 0} (s t : Status) → ◌≡◌ {A = Result A Status} (Err s) (Err t) → ◌≡◌ {A = Result B Status} (Err s) (Err t)
+pub err_as : {A B : Type 0} (s t : Status) → ◌≡◌ {A = Result A Status} (Err s) (Err t) → ◌≡◌ {A = Result B Status} (Err s) (Err t)
 err_as {B = B} s t e =
     let same : s ≡ t = cc in
     ap (λ s. let r : Result B Status = Err s in r) same
@@ -181,32 +181,6 @@ planned_drill x plans p = given_for (IsDrill x.job) (λ file plan. IsDrillPlan f
 pub planned_outline : (x : Accepts) (plans : Plans) → ArePlanned x (Ok plans) → CutsAlong x.job x.outline plans.outline
 planned_outline x plans p = given_for (IsOutline x.job) (CutsOut x.job) (λ image plan planned. planned) x.outline plans.outline (planned_each x plans p).3
 
--- both are there, or neither
-abbrev pub AreAlike : {B : Type 0} → Option B → Option B → Type 0
-AreAlike None None = Unit {0}
-AreAlike None (Some other) = ⊥
-AreAlike (Some one) None = ⊥
-AreAlike (Some one) (Some other) = Unit {0}
-
-for_alike : {A B : Type 0} (R : A → B → Type 0) (given : Option A) (one other : Option B) → IsFor R given one → IsFor R given other → AreAlike one other
-for_alike R None None None h k = tt
-for_alike R None None (Some other) h k = k
-for_alike R None (Some one) other h k = absurd h
-for_alike R (Some given) None other h k = absurd h
-for_alike R (Some given) (Some one) None h k = k
-for_alike R (Some given) (Some one) (Some other) h k = tt
-
--- all plans of what was accepted are for the same
-pub planned_alike : (x : Accepts) (one other : Plans) → ArePlanned x (Ok one) → ArePlanned x (Ok other) → AreAlike one.front other.front × AreAlike one.back other.back × AreAlike one.drill other.drill × AreAlike one.outline other.outline
-planned_alike x one other p q =
-    let h = planned_isolate x one p in
-    let k = planned_isolate x other q in (
-      for_alike (IsIsolationOf x.job) x.front one.front other.front h.0 k.0,
-      for_alike (IsIsolationOf x.job) x.back one.back other.back h.1 k.1,
-      for_alike (λ file plan. IsDrillPlan file (x.job).drills_available plan) x.drill one.drill other.drill (planned_drill x one p) (planned_drill x other q),
-      for_alike (CutsOut x.job) x.outline one.outline other.outline (planned_outline x one p) (planned_outline x other q),
-    )
-
 -- what is planned isn't refused
 pub planned_apart : (x : Accepts) (plans : Plans) (status : Status) → ArePlanned x (Ok plans) → ArePlanned x (Err status) → ⊥
 planned_apart x plans status planned (inl front) = given_apart (IsSide x.job) (side_apart x.job) x.front plans.front status (planned_each x plans planned).0 front
@@ -301,8 +275,3 @@ outline_refused_last x front back drill status f b d r =
     then_next (IfGiven x.back (IsSide x.job)) (behind_back x one) back status b (λ s. given_apart (IsSide x.job) (side_apart x.job) x.back back s b) (λ other.
     then_next (IfGiven x.drill (IsDrill x.job)) (behind_drill x one other) drill status d (drill_apart x.job x.drill) (λ holes.
     then_first (IfGiven x.outline (IsOutline x.job)) (λ outline. Is (Ok (let plans : Plans = record { front = one; back = other; drill = holes; outline = outline } in plans))) status only)))) r
-
--- the answer to what is planned
-pub one_answered : (x : Accepts) (status : Status) (answer : Result Plans Status) → IsOneRefusal (ArePlanned x) status → ArePlanned x answer → (status ≡ Memory) ⊎ (answer ≡ Err status)
-one_answered x status answer (inl memory) planned = inl memory
-one_answered x status answer (inr refused) planned = inr (refused.1 answer planned)

@@ -1,5 +1,6 @@
 pub mod Report
 pub mod Planned
+pub mod Written
 pub mod Mill
 pub mod Headline
 pub mod Done

@@ -1,11 +1,24 @@
-// What Done means.
+// What Done means, and that what is made is one.
 ghost use Rattle.mill_outputs.specs.Done.{AfterDone};
 ghost use Rattle.mill_outputs.specs.Headline.{OfSides, IsTextOf, NeverBites, PassesVisited, FollowsWalks, Clears, Counts, Separates, OfHoles, DrillsHoles, OfOutline, CutsBoardOut, LeavesBridges};
+ghost use Rattle.mill_outputs.specs.Written.{OneOfEach};
 
-use drill_plan::{few_diameters_law, limits_law};
-use drill_program::holes_law;
-use mill_program::{run_law, stroke_law};
+use drill_plan::{few_diameters_law, limits_law, one_plan_law};
+use drill_program::tiled_holes_law;
 use ngc_writer::spelling_law;
+use one_programs::{one_outline_law, one_side_law};
+use outline_tiles::tiled_outline_law;
+use side_runs::{apart_law, tiled_side_law, tiled_strokes_law};
+use tiling::{shifts_law, tile_value_law, tiled_program_law};
+
+/// Each image has one program, and each drill file one drill list.
+pub fn one_of_each_law()
+    ensures { OneOfEach }
+{
+    one_side_law();
+    one_plan_law();
+    one_outline_law();
+}
 
 /// What was written for each side, for the holes and for the outline after Done, from the bytes read to the bytes written.
 pub fn headline_law()
@@ -22,8 +35,13 @@ pub fn headline_law()
 {
     few_diameters_law();
     limits_law();
-    holes_law();
-    run_law();
-    stroke_law();
+    tiled_holes_law();
+    tiled_side_law();
+    tiled_strokes_law();
+    tiled_outline_law();
+    tile_value_law();
+    shifts_law();
+    apart_law();
+    tiled_program_law();
     spelling_law();
 }

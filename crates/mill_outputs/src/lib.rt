@@ -9,9 +9,11 @@ mod make;
 mod outline_report;
 mod planned;
 mod plans;
+mod programs;
 mod report;
 
-pub use laws::headline_law;
+pub use laws::{headline_law, one_of_each_law};
 pub use make::make_files;
 pub use planned::make_plans;
-pub use plans::Plans;
+pub use plans::{Plans, Programs};
+pub use programs::make_programs;

@@ -1,5 +1,5 @@
 // The files that `mill` makes, before any of them is written.
-ghost use Rattle.std.specs.Prelude.{◌≡◌, ◌⊎◌, ◌++◌, ◌≤ℤ◌, [], ◌∷◌, None, Err, Result, IfOk, IfSome, OnOk, IsErrOf, string_bytes};
+ghost use Rattle.std.specs.Prelude.{◌≡◌, ◌⊎◌, ◌++◌, [], ◌∷◌, None, Err, Result, IfOk, IfSome, OnOk, IsErrOf, string_bytes};
 ghost use Rattle.rs274_sim.specs.Spelling.{text_of};
 ghost use Rattle.mill_program.specs.Conditions.{IsProgram};
 ghost use Rattle.mill_program.specs.Lines.{lines_of};
@@ -11,24 +11,24 @@ ghost use Rattle.endings.specs.Outputs.{outputs_of};
 ghost use Rattle.endings.specs.declared.status.Status.{Status};
 ghost use Rattle.endings.specs.declared.status.Status.TheVariants as Statuses;
 ghost use Rattle.mill_inputs.specs.Accepted.{accepts_of, IsNamed, IsDrillOf};
-ghost use Rattle.mill_outputs.specs.Planned.{ArePlanned};
-ghost use Rattle.mill_outputs.specs.Mill.{named, program_file, drill_file, outline_file, files_of, AreFilesOf};
-ghost use Rattle.mill_outputs.specs.declared.plans.Plans.{Plans};
+ghost use Rattle.mill_outputs.specs.Written.{Made, AreMade, AreValid};
+ghost use Rattle.mill_outputs.specs.Mill.{named, program_file, files_of, AreFilesOf};
 
-use crate::Plans;
+use crate::laws::one_of_each_law;
 use crate::planned::make_plans;
+use crate::programs::make_programs;
 use crate::report::report;
+use crate::{Plans, Programs};
 use board_base::{Name, Role};
-use drill_plan::{DrillPlan, few_diameters_law, limits_law};
-use drill_program::drill_program;
+use drill_plan::{few_diameters_law, limits_law};
 use endings::{OutFile, Status};
 use job_file::Job;
 use mill_inputs::Accepted;
-use mill_plan::Isolation;
 use mill_program::{Program, lines};
 use ngc_writer::write_program;
-use outline_plan::OutlineCut;
+use side_runs::apart_law;
 use std::alloc::{AllocError, Global};
+use tiling::{shifts_law, tile_value_law, tiled_program_law};
 
 // The name of a file: behind the job's base name and an underscore, where there is one.
 fn full_name(alloc: Global, base: &Option<Name>, name: &str) -> Result<String, AllocError>
@@ -70,78 +70,38 @@ fn program_bytes(alloc: Global, program: &Program) -> Result<Vec<u8>, AllocError
     Ok(bytes)
 }
 
-// Adds the program of a side that was planned.
+// Adds the text of a program, where there is one.
 fn add_program(
     alloc: Global,
     files: &mut Vec<OutFile>,
     base: &Option<Name>,
     role: Role,
     name: &str,
-    plan: &Option<Isolation>,
+    program: &Option<Program>,
 ) -> Result<(), AllocError>
-    requires { IfSome plan.now (λ p. IsProgram p.program) }
-    ensures { OnOk result (outputs_of files.new.items ≡ outputs_of files.old.items ++ program_file base.now role name.now plan.now) }
+    requires { IfSome program.now IsProgram }
+    ensures { OnOk result (outputs_of files.new.items ≡ outputs_of files.old.items ++ program_file base.now role name.now program.now) }
 {
-    match plan {
-        Some(plan) => {
-            let bytes = program_bytes(alloc, &plan.program)?;
+    match program {
+        Some(program) => {
+            let bytes = program_bytes(alloc, program)?;
             add_file(alloc, files, base, role, name, bytes)
         }
         None => Ok(()),
     }
 }
 
-// Adds the program of the holes where there is a drill list.
-fn add_drill_program(
-    alloc: Global,
-    files: &mut Vec<OutFile>,
-    job: &Job,
-    plan: &Option<DrillPlan>,
-) -> Result<(), AllocError>
-    requires ranges { IsInRanges job.now }
-    requires change { (job.now).zsafe ≤ℤ (job.now).zchange }
-    requires limits { IfSome plan.now IsWithinLimits }
-    ensures { OnOk result (outputs_of files.new.items ≡ outputs_of files.old.items ++ drill_file job.now plan.now) }
-{
-    match plan {
-        Some(plan) => {
-            let program = drill_program(alloc, plan, job)?;
-            let bytes = program_bytes(alloc, &program)?;
-            add_file(alloc, files, &job.basename, Role::Drill, "drill.ngc", bytes)
-        }
-        None => Ok(()),
-    }
-}
-
-// Adds the program of the outline where there is one.
-fn add_outline_program(
-    alloc: Global,
-    files: &mut Vec<OutFile>,
-    base: &Option<Name>,
-    plan: &Option<OutlineCut>,
-) -> Result<(), AllocError>
-    requires { IfSome plan.now (λ p. IsProgram p.program) }
-    ensures { OnOk result (outputs_of files.new.items ≡ outputs_of files.old.items ++ outline_file base.now plan.now) }
-{
-    match plan {
-        Some(plan) => {
-            let bytes = program_bytes(alloc, &plan.program)?;
-            add_file(alloc, files, base, Role::Outline, "outline.ngc", bytes)
-        }
-        None => Ok(()),
-    }
-}
-
-// The files of what was planned: the programs, and then the report.
+// The files of what was made: the programs, and then the report.
 #[tactic(auto, unfolding(crate::specs::Mill::files_of))]
-fn plan_files(alloc: Global, job: &Job, plans: &Plans) -> Result<Vec<OutFile>, AllocError>
-    requires ranges { IsInRanges job.now }
-    requires change { (job.now).zsafe ≤ℤ (job.now).zchange }
-    requires front { IfSome (plans.now).front (λ p. IsProgram p.program) }
-    requires back { IfSome (plans.now).back (λ p. IsProgram p.program) }
+fn made_files(
+    alloc: Global,
+    job: &Job,
+    plans: &Plans,
+    programs: &Programs,
+) -> Result<Vec<OutFile>, AllocError>
     requires drill { IfSome (plans.now).drill IsWithinLimits }
-    requires outline { IfSome (plans.now).outline (λ p. IsProgram p.program) }
-    ensures { IfOk result (λ files. outputs_of files.items ≡ files_of job.now plans.now) }
+    requires valid { AreValid programs.now }
+    ensures { IfOk result (λ files. outputs_of files.items ≡ files_of job.now (record { plans = plans.now; programs = programs.now })) }
 {
     let base = &job.basename;
     let report = report(alloc, plans)?;
@@ -152,21 +112,43 @@ fn plan_files(alloc: Global, job: &Job, plans: &Plans) -> Result<Vec<OutFile>, A
         base,
         Role::Front,
         "front.ngc",
-        &plans.front,
+        &programs.front,
     )?;
-    add_program(alloc, &mut files, base, Role::Back, "back.ngc", &plans.back)?;
-    add_drill_program(alloc, &mut files, job, &plans.drill)?;
-    add_outline_program(alloc, &mut files, base, &plans.outline)?;
+    add_program(
+        alloc,
+        &mut files,
+        base,
+        Role::Back,
+        "back.ngc",
+        &programs.back,
+    )?;
+    add_program(
+        alloc,
+        &mut files,
+        base,
+        Role::Drill,
+        "drill.ngc",
+        &programs.drill,
+    )?;
+    add_program(
+        alloc,
+        &mut files,
+        base,
+        Role::Outline,
+        "outline.ngc",
+        &programs.outline,
+    )?;
     add_file(alloc, &mut files, base, Role::Report, "report.txt", report)?;
     Ok(files)
 }
 
-/// Plans what was accepted, and makes the programs of the sides, of the holes and of the outline, and the report.
+/// Plans what was accepted, puts the programs of the sides, of the holes and of the outline into the tiles of the job,
+/// and makes their texts and the report.
 ///
 /// # Errors
 ///
 /// `Limit` where a side passes a limit, the front before the back, then `Outline`, then `Limit` where the outline passes
-/// one, and `Memory`.
+/// one, then `Limit` where a tile is past the range, and `Memory`.
 pub fn make_files(alloc: Global, accepted: &Accepted) -> Result<Vec<OutFile>, Status>
     requires named { IsNamed (accepts_of accepted.now) }
     requires ranges { IsInRanges (accepted.now).job }
@@ -174,17 +156,26 @@ pub fn make_files(alloc: Global, accepted: &Accepted) -> Result<Vec<OutFile>, St
     requires drilled { IfSome (accepted.now).drill IsDrilled }
     requires stands { IsDrillOf (accepted.now).drill }
     ensures files { IfOk result (λ files. AreFilesOf (accepts_of accepted.now) (outputs_of files.items)) }
-    ensures refused { (status : Status) → IsErrOf result status → (status ≡ Statuses.Memory) ⊎ ArePlanned (accepts_of accepted.now) (Err status) }
-    ensures one_answer { (status : Status) (answer : Result Plans Status) → IsErrOf result status → ArePlanned (accepts_of accepted.now) answer
+    ensures refused { (status : Status) → IsErrOf result status → (status ≡ Statuses.Memory) ⊎ AreMade (accepts_of accepted.now) (Err status) }
+    ensures one_answer { (status : Status) (answer : Result Made Status) → IsErrOf result status → AreMade (accepts_of accepted.now) answer
         → (status ≡ Statuses.Memory) ⊎ (answer ≡ Err status) }
 {
     few_diameters_law();
     limits_law();
+    tile_value_law();
+    shifts_law();
+    apart_law();
+    tiled_program_law();
+    one_of_each_law();
     let plans = match make_plans(alloc, accepted) {
         Ok(plans) => plans,
         Err(status) => return Err(status),
     };
-    match plan_files(alloc, &accepted.job, &plans) {
+    let programs = match make_programs(alloc, &accepted.job, &plans) {
+        Ok(programs) => programs,
+        Err(status) => return Err(status),
+    };
+    match made_files(alloc, &accepted.job, &plans, &programs) {
         Ok(files) => Ok(files),
         Err(_) => Err(Status::Memory),
     }

@@ -6,6 +6,10 @@
 #[cfg(test)]
 mod boards;
 #[cfg(test)]
+mod check_refusals;
+#[cfg(test)]
+mod checks;
+#[cfg(test)]
 mod commands;
 #[cfg(test)]
 mod drill_files;
@@ -25,6 +29,8 @@ mod samples;
 mod sides;
 #[cfg(test)]
 mod simulations;
+#[cfg(test)]
+mod tiles;
 #[cfg(test)]
 mod whole_boards;
 #[cfg(test)]

@@ -5,7 +5,7 @@ use mill_top::{LimitHit, Status};
 use std::test::Fail;
 
 // A limit that is passed, and its line.
-const LIMITS: [(LimitHit, &str); 8] = [
+const LIMITS: [(LimitHit, &str); 10] = [
     (
         LimitHit::Cells(67_108_865),
         "pcbmill: limit: Cells 67108865\n",
@@ -23,6 +23,14 @@ const LIMITS: [(LimitHit, &str); 8] = [
     (LimitHit::Objects, "pcbmill: limit: Objects\n"),
     (LimitHit::Vertices, "pcbmill: limit: Vertices\n"),
     (LimitHit::Holes, "pcbmill: limit: Holes\n"),
+    (LimitHit::Probes(1681), "pcbmill: limit: Probes 1681\n"),
+    (
+        LimitHit::Tile {
+            x: 500_000_001,
+            y: -5,
+        },
+        "pcbmill: limit: Tile 500000001 -5\n",
+    ),
 ];
 
 #[test]

@@ -4,10 +4,11 @@ use crate::commands::{WORDS, carried_out, shelf_with, two_discs};
 use mill_top::Status;
 use std::test::Fail;
 
-// The pitch, the diameter and the tolerance of some commands.
-const USUAL: [&str; 3] = ["--pitch=0.2", "--mill-diameters=0.4", "--tolerance=0.14"];
+/// The pitch, the diameter and the tolerance of some commands.
+pub const USUAL: [&str; 3] = ["--pitch=0.2", "--mill-diameters=0.4", "--tolerance=0.14"];
 
-const FINE: [&str; 3] = ["--pitch=0.02", "--mill-diameters=0.2", "--tolerance=0.055"];
+/// The same in finer cells.
+pub const FINE: [&str; 3] = ["--pitch=0.02", "--mill-diameters=0.2", "--tolerance=0.055"];
 
 const COARSE: [&str; 3] = ["--pitch=0.2", "--mill-diameters=0.4", "--tolerance=0"];
 

@@ -175,8 +175,8 @@ fn arcs_are_refused(rt: HostRuntime) -> Result<(), Fail> {
     Ok(())
 }
 
-// Probes at four places, a centimetre from one another, each down to half a millimetre below the board at most.
-const FOUR_PROBES: &str = "F50\n\
+/// Probes at four places, a centimetre from one another, each down to half a millimetre below the board at most.
+pub const FOUR_PROBES: &str = "F50\n\
     G0 Z2\nG0 X0 Y0\nG38.2 Z-0.5\n\
     G0 Z2\nG0 X10 Y0\nG38.2 Z-0.5\n\
     G0 Z2\nG0 X0 Y10\nG38.2 Z-0.5\n\

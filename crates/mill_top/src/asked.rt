@@ -12,8 +12,10 @@ pub enum Asked {
     Simulation,
     /// It is `sample`.
     Sample,
-    /// It is neither.
-    Neither,
+    /// It is `check`.
+    Check,
+    /// It is none of these: `mill`, or a word that `mill` refuses.
+    Mill,
 }
 
 /// What the words ask for.
@@ -24,7 +26,9 @@ pub fn asked_by(words: &Vec<String>) -> Asked
         Asked::Simulation
     } else if begins_with(words, "sample") {
         Asked::Sample
+    } else if begins_with(words, "check") {
+        Asked::Check
     } else {
-        Asked::Neither
+        Asked::Mill
     }
 }

@@ -12,7 +12,7 @@ ghost use Rattle.mill_outputs.specs.Mill.{Ends};
 use board_base::{Shelf, Sink};
 use endings::{Status, deliver, tell};
 use mill_inputs::accept;
-use mill_outputs::make_files;
+use mill_outputs::{make_files, one_of_each_law};
 use std::alloc::Global;
 
 // Carries out `mill`, but for its line.
@@ -22,6 +22,7 @@ fn mill<S: Shelf>(alloc: Global, words: &Vec<String>, shelf: &mut S) -> Status
     ensures answers { IfTold (S.state shelf.old).files (λ files. (e : Ending) → Ends (texts words.now) (held_in files) e
         → IsAnswer (Ends (texts words.now)) files e result (S.state shelf.old) (S.state shelf.new)) }
 {
+    one_of_each_law();
     let accepted = match accept(alloc, words, shelf) {
         Ok(accepted) => accepted,
         Err(status) => return status,

@@ -14,7 +14,7 @@ use Rattle.outline_loops.specs.Answers.{IsClosedBoard, Answers as BoardAnswers}
 use Rattle.outline_loops.proofs.AnswerLaws.{one_answer as one_board_answer}
 use Rattle.job_file.specs.declared.job.Job.{Job}
 use Rattle.mill_plan.specs.declared.cutting.Cutting.{Cutting}
-use Rattle.mill_plan.specs.declared.limits.LimitHit.TheVariants.{Reach, Side, Cells, Islands, Objects, Vertices, Holes}
+use Rattle.mill_plan.specs.declared.limits.LimitHit.TheVariants.{Reach, Side, Cells, Islands, Objects, Vertices, Holes, Probes, Tile}
 use Rattle.mill_plan.specs.Frame.{IsFrameOf}
 use Rattle.mill_plan.proofs.OneFrame.{one_frame}
 use Rattle.outline_plan.specs.declared.plan.OutlineCut.{OutlineCut}
@@ -74,6 +74,8 @@ kind_of job painted (Err (Limit (Cells cells))) some h = inr (record { loops = h
 kind_of job painted (Err (Limit Islands)) some h = absurd h
 kind_of job painted (Err (Limit Objects)) some h = absurd h
 kind_of job painted (Err (Limit Holes)) some h = absurd h
+kind_of job painted (Err (Limit (Probes count))) some h = absurd h
+kind_of job painted (Err (Limit (Tile x y))) some h = absurd h
 kind_of job painted (Err (Limit Vertices)) some h = inl (record { cause = TooManyPoints h.0; some = λ e. cc; refused = h.1; is = refl })
 kind_of job painted (Err Memory) some h = absurd (some refl)
 

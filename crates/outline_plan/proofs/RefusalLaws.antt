@@ -17,7 +17,7 @@ use Rattle.outline_loops.specs.Answers.{Answers as BoardAnswers}
 use Rattle.job_file.specs.declared.job.Job.{Job}
 use Rattle.mill_plan.specs.declared.cutting.Cutting.{Cutting}
 use Rattle.mill_plan.specs.declared.limits.LimitHit.{LimitHit}
-use Rattle.mill_plan.specs.declared.limits.LimitHit.TheVariants.{Reach, Side, Cells, Islands, Objects, Vertices, Holes}
+use Rattle.mill_plan.specs.declared.limits.LimitHit.TheVariants.{Reach, Side, Cells, Islands, Objects, Vertices, Holes, Probes, Tile}
 use Rattle.mill_plan.specs.declared.limits.PlanError.{PlanError}
 use Rattle.mill_plan.specs.declared.limits.PlanError.TheVariants as plan
 use Rattle.mill_plan.specs.Cutting.{guard, kept_by}
@@ -59,6 +59,8 @@ frame_refused job painted board (Limit hit) made h = by hit h.0 h.1
     by Islands other h = other refl
     by Objects other h = h
     by Holes other h = h
+    by (Probes count) other h = h
+    by (Tile x y) other h = h
     by Vertices other h = absurd h
 
 pub grid_refused : (k : Cutting) (board : List Painted) (error : PlanError) → ((hit : LimitHit) → error ≡ plan.Limit hit → HitsLimit k board hit) → (error ≡ plan.Limit Islands → ⊥) → IsFrameRefusal k board (error_of error)

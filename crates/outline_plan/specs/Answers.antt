@@ -7,7 +7,7 @@ use Rattle.outline_loops.specs.declared.refusals.OutlineError.TheVariants.{OpenO
 use Rattle.outline_loops.specs.Answers.{IsClosedBoard, Answers as BoardAnswers}
 use Rattle.job_file.specs.declared.job.Job.{Job}
 use Rattle.mill_plan.specs.declared.limits.LimitHit.{LimitHit}
-use Rattle.mill_plan.specs.declared.limits.LimitHit.TheVariants.{Reach, Side, Cells, Islands, Objects, Vertices, Holes}
+use Rattle.mill_plan.specs.declared.limits.LimitHit.TheVariants.{Reach, Side, Cells, Islands, Objects, Vertices, Holes, Probes, Tile}
 use Rattle.mill_plan.specs.Frame.{HitsLimit}
 use Rattle.outline_plan.specs.declared.plan.OutlineCut.{OutlineCut}
 use Rattle.outline_plan.specs.declared.errors.OutlinePlanError.{OutlinePlanError}
@@ -37,6 +37,8 @@ HitsOutlineLimit job painted (Cells cells) = IsBoardPast job painted (Cells cell
 HitsOutlineLimit job painted Islands = ⊥
 HitsOutlineLimit job painted Objects = ⊥
 HitsOutlineLimit job painted Holes = ⊥
+HitsOutlineLimit job painted (Probes count) = ⊥
+HitsOutlineLimit job painted (Tile x y) = ⊥
 HitsOutlineLimit job painted Vertices = (count : ℕ) × BoardAnswers painted (Err (TooManyPoints count))
 
 -- The plan that cuts the board out; or the first of these refusals: an end is open, there is no loop, a limit is passed.

@@ -5,4 +5,5 @@ pub mod AlongLaws
 pub mod OwnLaws
 pub mod ScanLaws
 pub mod PlaneLaws
+pub mod EndLaws
 pub mod WholeLaws

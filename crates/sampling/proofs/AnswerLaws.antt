@@ -5,7 +5,7 @@ use Rattle.board_base.specs.Counts.{Rose}
 use Rattle.board_base.specs.Files.{Files}
 use Rattle.board_base.specs.Shelf.{ShelfState}
 use Rattle.endings.specs.declared.status.Status.{Status}
-use Rattle.endings.specs.declared.status.Status.TheVariants.{Done, Usage, Job as RefusedJob, Gerber, Drill, Outline, TooLong, Limit, ReadFault, WriteFault, Ngc, Watch, Memory}
+use Rattle.endings.specs.declared.status.Status.TheVariants.{Done, Usage, Job as RefusedJob, Gerber, Drill, Outline, TooLong, Limit, ReadFault, WriteFault, Ngc, Watch, Cell, Memory}
 use Rattle.endings.specs.Reads.{Reading, held_in, MayRead}
 use Rattle.endings.specs.Steps.{Is, Then}
 use Rattle.endings.specs.Works.{Refuses}
@@ -13,7 +13,7 @@ use Rattle.endings.proofs.RunLaws.{given_by, from_told_and}
 use Rattle.mill_inputs.specs.Accepted.{Accepts, accepted}
 use Rattle.mill_outputs.specs.declared.plans.Plans.{Plans}
 use Rattle.mill_outputs.specs.Planned.{ArePlanned, IsOneRefusal}
-use Rattle.mill_outputs.specs.Mill.{Milled, Answered}
+use Rattle.mill_outputs.specs.Mill.{Planning, AsPlanned}
 use Rattle.mill_inputs.proofs.ContentLaws.{ok_is}
 use Rattle.mill_outputs.proofs.PlanLaws.{IsOnly, err_not_ok, then_first, or_memory, planned_apart}
 use Rattle.sampling.specs.Sampled.{HasPlans}
@@ -36,10 +36,10 @@ then_only {B = B} r a Next status e only = (inr (a, sym e, only.0), one)
 -- ---- the files of a shelf that never fails
 
 -- the steps behind what is accepted, and behind its plans
-abbrev made : Accepts → Plans → Result Milled Status → Type 0
+abbrev made : Accepts → Plans → Result Planning Status → Type 0
 made x plans = Is (Ok (record { accepts = x; plans = plans }))
 
-abbrev planned_for : Accepts → Result Milled Status → Type 0
+abbrev planned_for : Accepts → Result Planning Status → Type 0
 planned_for x = Then (ArePlanned x) (made x)
 
 pub rose_not : Rose 0 0 → ⊥
@@ -64,6 +64,7 @@ accepted_refused words status files before now told steady r = by_status status 
     by_status (Outline error) r = so (Outline error) r
     by_status (Ngc role fault line) r = so (Ngc role fault line) r
     by_status (Watch watcher at) r = so (Watch watcher at) r
+    by_status (Cell i j line) r = so (Cell i j line) r
     by_status (Limit hit) r = so (Limit hit) r
     by_status (TooLong role) r = so (TooLong role) r.0
     by_status (ReadFault role) (inl r) = absurd (steady r.0)
@@ -71,10 +72,10 @@ accepted_refused words status files before now told steady r = by_status status 
 
 -- words and files that are refused have that answer alone
 pub refusal_answers : (words : List (List ℕ)) (status : Status) (files : Files) (before now : ShelfState) → before.files ≡ Some files → (Rose before.read_faults now.read_faults → ⊥)
-    → Refuses (λ given s. accepted words given ≡ Err s) status before now → IsOneRefusal (Answered words (held_in files)) status
+    → Refuses (λ given s. accepted words given ≡ Err s) status before now → IsOneRefusal (AsPlanned words (held_in files)) status
 refusal_answers words status files before now told steady r = by_case (accepted_refused words status files before now told steady r)
   where
-    by_case : (status ≡ Memory) ⊎ (accepted words (held_in files) ≡ Err status) → IsOneRefusal (Answered words (held_in files)) status
+    by_case : (status ≡ Memory) ⊎ (accepted words (held_in files) ≡ Err status) → IsOneRefusal (AsPlanned words (held_in files)) status
     by_case (inl memory) = inl memory
     by_case (inr bad) = inr (then_first (Is (accepted words (held_in files))) planned_for status (is_only (accepted words (held_in files)) status bad))
 
@@ -84,9 +85,9 @@ accepted_so words x files before told r = subst (λ given. accepted words given 
 
 -- plans that are refused are
 pub plan_answers : (words : List (List ℕ)) (x : Accepts) (status : Status) (files : Files) (before : ShelfState) → before.files ≡ Some files → (given : Reading) × MayRead before.files given × (accepted words given ≡ Ok x)
-    → IsOneRefusal (ArePlanned x) status → IsOneRefusal (Answered words (held_in files)) status
+    → IsOneRefusal (ArePlanned x) status → IsOneRefusal (AsPlanned words (held_in files)) status
 plan_answers words x status files before told r refused =
-    or_memory (ArePlanned x) (Answered words (held_in files)) status
+    or_memory (ArePlanned x) (AsPlanned words (held_in files)) status
     (λ only. then_only (accepted words (held_in files)) x planned_for status (accepted_so words x files before told r) (then_first (ArePlanned x) (made x) status only)) refused
 
 -- plans that are made are an answer
@@ -95,7 +96,7 @@ pub plans_answer : (words : List (List ℕ)) (x : Accepts) (plans : Plans) (file
 plans_answer words x plans files before told r planned = (x, (x, sym (accepted_so words x files before told r), (plans, planned, refl)))
 
 -- and then there is no refusal
-pub milled_apart : (words : List (List ℕ)) (given : Reading) (m : Milled) (status : Status) → Answered words given (Ok m) → Answered words given (Err status) → ⊥
+pub milled_apart : (words : List (List ℕ)) (given : Reading) (m : Planning) (status : Status) → AsPlanned words given (Ok m) → AsPlanned words given (Err status) → ⊥
 milled_apart words given m status milled (inl bad) = err_not_ok milled.0 status (bad ∙ sym milled.1)
 milled_apart words given m status milled (inr (x, good, inl refused)) =
     let rest = milled.2 in

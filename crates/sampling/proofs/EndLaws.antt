@@ -2,7 +2,7 @@
 use Rattle.std.proofs.Common.{◌≡◌, ◌≢◌, ◌⊎◌, ℕ, ◌≤◌, List, [], Result, Ok, Err, inl, inr, refl, sym, ap, ◌∙◌, subst}
 use Rattle.board_base.specs.Shelf.{ShelfState}
 use Rattle.endings.specs.declared.status.Status.{Status}
-use Rattle.endings.specs.declared.status.Status.TheVariants.{Done, Usage, Job as RefusedJob, Gerber, Drill, Outline, TooLong, Limit, ReadFault, WriteFault, Ngc, Watch, Memory}
+use Rattle.endings.specs.declared.status.Status.TheVariants.{Done, Usage, Job as RefusedJob, Gerber, Drill, Outline, TooLong, Limit, ReadFault, WriteFault, Ngc, Watch, Cell, Memory}
 use Rattle.endings.specs.Answers.{usage}
 use Rattle.endings.specs.Ending.{Ending, refusal, with_ok}
 use Rattle.endings.specs.Reads.{Reading, held_in, MayRead}
@@ -17,7 +17,7 @@ use Rattle.mill_inputs.proofs.ContentLaws.{ok_is}
 use Rattle.mill_inputs.proofs.AcceptLaws.{accepted_not_done}
 use Rattle.mill_outputs.specs.declared.plans.Plans.{Plans}
 use Rattle.mill_outputs.specs.Planned.{IsOneRefusal}
-use Rattle.mill_outputs.specs.Mill.{Milled, Answered}
+use Rattle.mill_outputs.specs.Mill.{Planning, AsPlanned}
 use Rattle.mill_outputs.proofs.PlanLaws.{IsOnly, IsPlanRefusal, err_not_ok, then_first, or_memory, planned_refusal}
 use Rattle.sampling.specs.declared.figures.Summary.{Summary}
 use Rattle.endings.specs.Words.{IsExactUsage}
@@ -47,13 +47,14 @@ of_bytes (ReadFault role) h = h
 of_bytes (WriteFault role) h = h
 of_bytes (Ngc role fault line) h = h
 of_bytes (Watch watcher at) h = h
+of_bytes (Cell i j line) h = h
 of_bytes Memory h = h
 
 of_plans : (status : Status) → IsPlanRefusal status → IsOfBoard status
 of_plans status (inl limit) = subst IsOfBoard (sym limit.1) tt
 of_plans status (inr outline) = subst IsOfBoard (sym outline.1) tt
 
-milled_refused : (pads : ℕ) (status : Status) → pads ≤ 400 → Answered mill_words (held_in (sample_files pads)) (Err status) → IsOfBoard status
+milled_refused : (pads : ℕ) (status : Status) → pads ≤ 400 → AsPlanned mill_words (held_in (sample_files pads)) (Err status) → IsOfBoard status
 milled_refused pads status few (inl bad) = of_bytes status (err_is IsOfBytes (accepted mill_words (held_in (sample_files pads))) status (accepted_alone pads few) (sym bad))
 milled_refused pads status few (inr (x, good, inl refused)) = of_plans status (planned_refusal x status refused)
 milled_refused pads status few (inr (x, good, inr (plans, planned, made))) = absurd (err_not_ok _ status made)
@@ -61,20 +62,20 @@ milled_refused pads status few (inr (x, good, inr (plans, planned, made))) = abs
 -- ---- the answers of the command
 
 -- the last step, and the last two
-abbrev told : ℕ → Milled → Result Summary Status → Type 0
+abbrev told : ℕ → Planning → Result Summary Status → Type 0
 told pads m = Is (Ok (summary_of pads m.plans))
 
 abbrev milled : ℕ → Result Summary Status → Type 0
-milled pads = Then (Answered mill_words (held_in (sample_files pads))) (told pads)
+milled pads = Then (AsPlanned mill_words (held_in (sample_files pads))) (told pads)
 
 -- wrong words are
 usage_only : (words : List (List ℕ)) (word : ℕ) → words_of words ≡ Err word → IsOnly (Sampled words) (Usage word)
 usage_only words word e = then_first (Is (usage (words_of words))) milled (Usage word) (is_only (usage (words_of words)) (Usage word) (ap usage e))
 
 -- so is what `mill` refuses
-board_only : (words : List (List ℕ)) (pads : ℕ) (status : Status) → words_of words ≡ Ok pads → IsOnly (Answered mill_words (held_in (sample_files pads))) status → IsOnly (Sampled words) status
+board_only : (words : List (List ℕ)) (pads : ℕ) (status : Status) → words_of words ≡ Ok pads → IsOnly (AsPlanned mill_words (held_in (sample_files pads))) status → IsOnly (Sampled words) status
 board_only words pads status e only =
-    then_only (usage (words_of words)) pads milled status (ap usage e) (then_first (Answered mill_words (held_in (sample_files pads))) (told pads) status only)
+    then_only (usage (words_of words)) pads milled status (ap usage e) (then_first (AsPlanned mill_words (held_in (sample_files pads))) (told pads) status only)
 
 -- plans are told
 sampled : (words : List (List ℕ)) (pads : ℕ) (plans : Plans) → words_of words ≡ Ok pads → HasPlans mill_words (held_in (sample_files pads)) plans → Sampled words (Ok (summary_of pads plans))
@@ -85,7 +86,7 @@ sampled_apart : (words : List (List ℕ)) (pads : ℕ) (plans : Plans) (status :
 sampled_apart words pads plans status e has (inl bad) = err_not_ok pads status (bad ∙ ap usage e)
 sampled_apart words pads plans status e has (inr (n, good, inl refused)) =
     let same : n ≡ pads = ok_is n pads (good ∙ ap usage e) in
-    milled_apart mill_words (held_in (sample_files pads)) _ status has.1 (subst (λ k. Answered mill_words (held_in (sample_files k)) (Err status)) same refused)
+    milled_apart mill_words (held_in (sample_files pads)) _ status has.1 (subst (λ k. AsPlanned mill_words (held_in (sample_files k)) (Err status)) same refused)
 sampled_apart words pads plans status e has (inr (n, good, inr (m, milled, made))) = err_not_ok _ status made
 
 -- ---- what was done before any line is put
@@ -116,6 +117,7 @@ refuses_board words status shelf of h = by_status status of h
     by_status (WriteFault role) of h = absurd of
     by_status (Ngc role fault line) of h = absurd of
     by_status (Watch watcher at) of h = absurd of
+    by_status (Cell i j line) of h = absurd of
     by_status Memory of h = tt
 
 -- wrong words
@@ -127,7 +129,7 @@ pub memory_works : (words : List (List ℕ)) (shelf : ShelfState) → Works (Sam
 memory_works words shelf = inl refl
 
 -- what `mill` refuses
-pub board_works : (words : List (List ℕ)) (pads : ℕ) (status : Status) → words_of words ≡ Ok pads → pads ≤ 400 → IsOneRefusal (Answered mill_words (held_in (sample_files pads))) status
+pub board_works : (words : List (List ℕ)) (pads : ℕ) (status : Status) → words_of words ≡ Ok pads → pads ≤ 400 → IsOneRefusal (AsPlanned mill_words (held_in (sample_files pads))) status
     → (shelf : ShelfState) → Works (SampleEnds words) status shelf shelf
 board_works words pads status e few (inl memory) shelf = subst (λ s. Works (SampleEnds words) s shelf shelf) (sym memory) (memory_works words shelf)
 board_works words pads status e few (inr only) shelf =
@@ -163,9 +165,9 @@ refusal_alone words status (inr only) given e ends = inl (sym (ap (λ (e : Endin
 pub usage_alone : (words : List (List ℕ)) (word : ℕ) → words_of words ≡ Err word → (given : Reading) (e : Ending) → SampleEnds words given e → (Usage word ≡ e.status) ⊎ (Usage word ≡ Memory)
 usage_alone words word e = refusal_alone words (Usage word) (inr (usage_only words word e))
 
-pub board_alone : (words : List (List ℕ)) (pads : ℕ) (status : Status) → words_of words ≡ Ok pads → IsOneRefusal (Answered mill_words (held_in (sample_files pads))) status
+pub board_alone : (words : List (List ℕ)) (pads : ℕ) (status : Status) → words_of words ≡ Ok pads → IsOneRefusal (AsPlanned mill_words (held_in (sample_files pads))) status
     → (given : Reading) (e : Ending) → SampleEnds words given e → (status ≡ e.status) ⊎ (status ≡ Memory)
-board_alone words pads status e refused = refusal_alone words status (or_memory (Answered mill_words (held_in (sample_files pads))) (Sampled words) status (board_only words pads status e) refused)
+board_alone words pads status e refused = refusal_alone words status (or_memory (AsPlanned mill_words (held_in (sample_files pads))) (Sampled words) status (board_only words pads status e) refused)
 
 -- a board that was milled has endings that are Done
 pub sample_alone : (words : List (List ℕ)) (pads : ℕ) (plans : Plans) → words_of words ≡ Ok pads → HasPlans mill_words (held_in (sample_files pads)) plans
@@ -213,12 +215,12 @@ usage_memory words pads e = usage_accepted (words_of words) pads Memory e (λ wo
     apart word e = cc
 
 -- a refusal of a board is neither
-board_is : (pads : ℕ) (status : Status) → pads ≤ 400 → IsOneRefusal (Answered mill_words (held_in (sample_files pads))) status → IsOfBoard status
+board_is : (pads : ℕ) (status : Status) → pads ≤ 400 → IsOneRefusal (AsPlanned mill_words (held_in (sample_files pads))) status → IsOfBoard status
 board_is pads status few (inl memory) = subst IsOfBoard (sym memory) tt
 board_is pads status few (inr only) = milled_refused pads status few only.0
 
-pub usage_board : (words : List (List ℕ)) (pads : ℕ) (status : Status) → words_of words ≡ Ok pads → pads ≤ 400 → IsOneRefusal (Answered mill_words (held_in (sample_files pads))) status → IsExactUsage (words_of words) status
+pub usage_board : (words : List (List ℕ)) (pads : ℕ) (status : Status) → words_of words ≡ Ok pads → pads ≤ 400 → IsOneRefusal (AsPlanned mill_words (held_in (sample_files pads))) status → IsExactUsage (words_of words) status
 usage_board words pads status e few refused = usage_accepted (words_of words) pads status e (λ word is. subst IsOfBoard is (board_is pads status few refused))
 
-pub board_not_done : (pads : ℕ) (status : Status) → pads ≤ 400 → IsOneRefusal (Answered mill_words (held_in (sample_files pads))) status → status ≡ Done → ⊥
+pub board_not_done : (pads : ℕ) (status : Status) → pads ≤ 400 → IsOneRefusal (AsPlanned mill_words (held_in (sample_files pads))) status → status ≡ Done → ⊥
 board_not_done pads status few refused is = subst IsOfBoard is (board_is pads status few refused)

@@ -15,7 +15,7 @@ use Rattle.endings.specs.Ending.{Ending, refusal, with_ok}
 use Rattle.endings.specs.Steps.{Is, Then}
 use Rattle.mill_inputs.specs.Accepted.{Accepts}
 use Rattle.mill_outputs.specs.declared.plans.Plans.{Plans}
-use Rattle.mill_outputs.specs.Mill.{Answered}
+use Rattle.mill_outputs.specs.Mill.{AsPlanned}
 use Rattle.sampling.specs.declared.figures.Summary.{Summary}
 use Rattle.sampling.specs.Words.{words_of}
 
@@ -33,7 +33,7 @@ mill_words = codes "mill" ∷ codes "-" ∷ codes "--front=front.gbr" ∷ codes 
 
 -- these plans are what `mill` answers with these words and what reads give
 abbrev pub HasPlans : List (List ℕ) → Reading → Plans → Type 0
-HasPlans words given plans = (x : Accepts) × Answered words given (Ok (record { accepts = x; plans = plans }))
+HasPlans words given plans = (x : Accepts) × AsPlanned words given (Ok (record { accepts = x; plans = plans }))
 
 -- ---- what is told of it
 
@@ -79,7 +79,7 @@ summary_line s =
 abbrev pub Sampled : List (List ℕ) → Result Summary Status → Type 0
 Sampled words =
     Then (Is (usage (words_of words))) (λ pads.
-    Then (Answered mill_words (held_in (sample_files pads))) (λ m.
+    Then (AsPlanned mill_words (held_in (sample_files pads))) (λ m.
     Is (Ok (summary_of pads m.plans))))
 
 -- the ending of what the steps answer

@@ -5,7 +5,7 @@ ghost use Rattle.drill_plan.specs.Limits.{IsWithinLimits};
 ghost use Rattle.endings.specs.Reads.{held_in};
 ghost use Rattle.job_file.specs.Reading.{texts};
 ghost use Rattle.mill_outputs.specs.Planned.{IsOneRefusal};
-ghost use Rattle.mill_outputs.specs.Mill.{Answered};
+ghost use Rattle.mill_outputs.specs.Mill.{AsPlanned};
 ghost use Rattle.sampling.specs.Sampled.{sample_files, mill_words as mill_words_of, HasPlans};
 
 use board_base::SteadyShelf;
@@ -56,7 +56,7 @@ fn sample_shelf(alloc: Global, pads: u32) -> Result<SteadyShelf, AllocError>
 fn mill(alloc: Global, words: &Vec<String>, shelf: &mut SteadyShelf) -> Result<Plans, Status>
     ensures answer { MatchResult result
         (HasPlans (texts words.now) (held_in (steady_files shelf.old)))
-        (IsOneRefusal (Answered (texts words.now) (held_in (steady_files shelf.old)))) }
+        (IsOneRefusal (AsPlanned (texts words.now) (held_in (steady_files shelf.old)))) }
     ensures within { IfOk result (λ plans. IfSome plans.drill IsWithinLimits) }
 {
     few_diameters_law();
@@ -81,7 +81,7 @@ pub fn plan_sample(alloc: Global, pads: u32) -> Result<Plans, Status>
     requires high { pads ≤ 400 }
     ensures answer { MatchResult result
         (HasPlans mill_words_of (held_in (sample_files pads)))
-        (IsOneRefusal (Answered mill_words_of (held_in (sample_files pads)))) }
+        (IsOneRefusal (AsPlanned mill_words_of (held_in (sample_files pads)))) }
     ensures within { IfOk result (λ plans. IfSome plans.drill IsWithinLimits) }
 {
     let words = match mill_words(alloc) {

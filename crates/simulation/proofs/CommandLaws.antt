@@ -19,7 +19,7 @@ use Rattle.ngc_reader.specs.declared.error.NgcKind.TheVariants as kinds
 use Rattle.ngc_reader.specs.Gives.{FailsAt}
 use Rattle.rs274_sim.proofs.FoundLaws.{not_ok}
 use Rattle.endings.specs.declared.status.Status.{Status}
-use Rattle.endings.specs.declared.status.Status.TheVariants.{Done, Usage, Job, Gerber, Drill, Outline, TooLong, Limit, ReadFault, WriteFault, Ngc, Watch, Memory}
+use Rattle.endings.specs.declared.status.Status.TheVariants.{Done, Usage, Job, Gerber, Drill, Outline, TooLong, Limit, ReadFault, WriteFault, Ngc, Watch, Cell, Memory}
 use Rattle.endings.specs.Answers.{usage, MakesOf}
 use Rattle.endings.specs.Ending.{Ending}
 use Rattle.endings.specs.Reads.{Reading, MayRead}
@@ -65,6 +65,7 @@ makes_weaker view all step whole (ReadFault role) weaker h = weaker h
 makes_weaker view all step whole (WriteFault role) weaker h = absurd h
 makes_weaker view all step whole (Ngc role fault line) weaker h = weaker h
 makes_weaker view all step whole (Watch watcher at) weaker h = weaker h
+makes_weaker view all step whole (Cell i j line) weaker h = weaker h
 makes_weaker view all step whole Memory weaker h = tt
 
 -- ---- what is made of both files
@@ -184,6 +185,7 @@ gives_outcome limits words names s result before now last e read made = by_resul
     by_status (WriteFault role) h = absurd h
     by_status (Ngc role fault line) h = so (Err (Ngc role fault line)) h
     by_status (Watch watcher at) h = so (Err (Watch watcher at)) h
+    by_status (Cell i j line) h = so (Err (Cell i j line)) h
     by_status Memory h = tt
 
     by_result : (r : Result Simulation Status) → MakesOf told_of (outcome_of limits (sources_of s)) r → Gives told_of before last (simulated limits words) r

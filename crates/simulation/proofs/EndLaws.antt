@@ -9,7 +9,7 @@ use Rattle.move_watch.specs.declared.bounds.Limits.{Limits}
 use Rattle.move_watch.specs.declared.finding.Finding.{Finding}
 use Rattle.rs274_sim.proofs.FoundLaws.{same_ok, bind_ok}
 use Rattle.endings.specs.declared.status.Status.{Status}
-use Rattle.endings.specs.declared.status.Status.TheVariants.{Done, Usage, Job, Gerber, Drill, Outline, TooLong, Limit, ReadFault, WriteFault, Ngc, Watch, Memory}
+use Rattle.endings.specs.declared.status.Status.TheVariants.{Done, Usage, Job, Gerber, Drill, Outline, TooLong, Limit, ReadFault, WriteFault, Ngc, Watch, Cell, Memory}
 use Rattle.endings.specs.Answers.{usage, IfTold}
 use Rattle.endings.specs.Ending.{Ending, refusal}
 use Rattle.endings.specs.Reads.{Reading, held_in, MayRead, without}
@@ -111,3 +111,4 @@ refusal_answered limits words status before now h =
     by_status (Limit hit) files e told ends h = so (Limit hit) files e told ends h
     by_status (Ngc role fault line) files e told ends h = so (Ngc role fault line) files e told ends h
     by_status (Watch watcher at) files e told ends h = so (Watch watcher at) files e told ends h
+    by_status (Cell i j line) files e told ends h = so (Cell i j line) files e told ends h

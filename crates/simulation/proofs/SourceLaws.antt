@@ -9,7 +9,7 @@ use Rattle.board_base.specs.Counts.{Rose, RoseBy}
 use Rattle.board_base.specs.Files.{Files}
 use Rattle.board_base.specs.Shelf.{ShelfState, OnlyReads}
 use Rattle.endings.specs.declared.status.Status.{Status}
-use Rattle.endings.specs.declared.status.Status.TheVariants.{Done, Usage, Job, Gerber, Drill, Outline, TooLong, Limit, ReadFault, WriteFault, Ngc, Watch, Memory}
+use Rattle.endings.specs.declared.status.Status.TheVariants.{Done, Usage, Job, Gerber, Drill, Outline, TooLong, Limit, ReadFault, WriteFault, Ngc, Watch, Cell, Memory}
 use Rattle.endings.specs.Limits.{most_bytes}
 use Rattle.endings.specs.Lines.{role_name}
 use Rattle.endings.specs.Reads.{Reading, held_in, MayRead, without, accepted_bytes, input}
@@ -49,6 +49,7 @@ input_later role name before mid now (Err (Limit hit)) keeps h = absurd h
 input_later role name before mid now (Err (WriteFault r)) keeps h = absurd h
 input_later role name before mid now (Err (Ngc r fault line)) keeps h = absurd h
 input_later role name before mid now (Err (Watch watcher at)) keeps h = absurd h
+input_later role name before mid now (Err (Cell i j line)) keeps h = absurd h
 
 -- ---- both files
 
@@ -109,6 +110,7 @@ refuses_program p o (Limit hit) before now r = absurd r
 refuses_program p o (WriteFault role) before now r = absurd r
 refuses_program p o (Ngc role fault line) before now r = absurd r
 refuses_program p o (Watch watcher at) before now r = absurd r
+refuses_program p o (Cell i j line) before now r = absurd r
 refuses_program p o Memory before now r = tt
 refuses_program p o (ReadFault role) before now r = subst (λ role. Gives sources_of before now (sources_in (record { program = p; probes = o })) (Err (ReadFault role))) (sym r.0) (by_cause r.1)
   where
@@ -142,6 +144,7 @@ probes_out p q program (Limit hit) before now few read r = absurd r
 probes_out p q program (WriteFault role) before now few read r = absurd r
 probes_out p q program (Ngc role fault line) before now few read r = absurd r
 probes_out p q program (Watch watcher at) before now few read r = absurd r
+probes_out p q program (Cell i j line) before now few read r = absurd r
 probes_out p q program Memory before now few read r = tt
 probes_out p q program (ReadFault role) before now few read r = subst (λ role. Gives sources_of before now (sources_in (record { program = p; probes = Some q })) (Err (ReadFault role))) (sym r.0) (by_cause r.1)
   where

@@ -13,4 +13,5 @@ mod words;
 pub use answers::{answers_law, read_probes};
 pub use command::simulate;
 pub use report::Simulation;
-pub use words::{Names, read_words};
+pub use sources::{Sources, read_answers, read_lines, read_sources};
+pub use words::{Names, file_at, read_words};

@@ -13,8 +13,8 @@ pub struct Names<'a> {
     pub probes: Option<&'a str>,
 }
 
-// The name of a file that stands in this place, from 0.
-fn file_at<'a>(words: &'a Vec<String>, place: usize) -> Option<&'a str>
+/// The name of a file that stands in this place, from 0.
+pub fn file_at<'a>(words: &'a Vec<String>, place: usize) -> Option<&'a str>
     ensures { option_copied result ≡ option_and_then file_word (slice_get (texts words.now) place) }
 {
     let Some(word) = text_at(words, place) else {

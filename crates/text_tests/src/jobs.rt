@@ -54,7 +54,7 @@ fn lines_are_refused_at_their_places(rt: HostRuntime) {
         ),
         ("# board\nmetric=true\n", (JobKind::Missing, 0, 0)),
         ("front=a\n\nx\n", (JobKind::BadValue, 0, 3)),
-        ("front=a\ntile-x=2\n", (JobKind::NotBuiltYet, 31, 2)),
+        ("front=a\ntile-x=0\n", (JobKind::OutOfRange, 31, 2)),
         ("outline=b\r\nal-front=1\r\n", (JobKind::NotBuiltYet, 33, 2)),
     ] {
         assert_eq!(rt;
@@ -76,8 +76,9 @@ fn words_are_refused_at_their_places(rt: HostRuntime) {
         ("--pitch=0.2", Some((JobKind::PitchTooCoarse, 40, WORD))),
         ("--mill-speed=05", Some((JobKind::BadValue, 13, WORD))),
         ("--tile-x=21", Some((JobKind::OutOfRange, 31, WORD))),
-        ("--tile-x=2", Some((JobKind::NotBuiltYet, 31, WORD))),
-        ("--tile-y=20", Some((JobKind::NotBuiltYet, 32, WORD))),
+        ("--tile-y=21", Some((JobKind::OutOfRange, 32, WORD))),
+        ("--tile-x=2", None),
+        ("--tile-y=20", None),
         ("--al-front=1", Some((JobKind::NotBuiltYet, 33, WORD))),
         ("--tile-x=1", None),
         ("--al-front=0", None),

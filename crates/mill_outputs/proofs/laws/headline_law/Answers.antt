@@ -1,35 +1,62 @@
 use Rattle.mill_outputs.specs.Headline.{IsTextOf, NeverBites, PassesVisited, FollowsWalks, Clears, Counts, Separates, CutsBoardOut, LeavesBridges}
 use Rattle.mill_outputs.proofs.HeadlineLaws.{sides_after_done, holes_after_done, outline_after_done}
+use Rattle.mill_outputs.proofs.TileLaws.{TilingLaws}
+use Rattle.mill_outputs.proofs.HoleLaws.{HoleLaws}
 use Rattle.mill_outputs.proofs.BoardLaws.{cuts_board_out, leaves_bridges}
-use Rattle.mill_outputs.proofs.SideLaws.{side_text, side_never_bites, side_passes, side_follows, side_clears, side_counts, side_separates}
+use Rattle.mill_outputs.proofs.SideLaws.{SideRunLaws, side_text, side_never_bites, side_passes, side_follows, side_clears, side_counts, side_separates}
 use Rattle.mill_outputs.proofs.laws.headline_law.Goals as goal
 
 pub returns-clause-words : goal.returns-clause-words
-returns-clause-words c = sides_after_done IsTextOf side_text
+returns-clause-words c =
+    let tiling : TilingLaws = record { value = c.tile_value_law.ensures; shifts = c.shifts_law.ensures.cells; some = c.shifts_law.ensures.some; program = c.tiled_program_law.ensures; apart = c.apart_law.ensures } in
+    sides_after_done tiling IsTextOf side_text
 
 pub returns-clause-no_bite : goal.returns-clause-no_bite
-returns-clause-no_bite c = sides_after_done NeverBites (side_never_bites c.spelling_law.ensures)
+returns-clause-no_bite c =
+    let tiling : TilingLaws = record { value = c.tile_value_law.ensures; shifts = c.shifts_law.ensures.cells; some = c.shifts_law.ensures.some; program = c.tiled_program_law.ensures; apart = c.apart_law.ensures } in
+    let sides : SideRunLaws = record { spelled = c.spelling_law.ensures; side = c.tiled_side_law.ensures; strokes = c.tiled_strokes_law.ensures } in
+    sides_after_done tiling NeverBites (side_never_bites sides)
 
 pub returns-clause-visited : goal.returns-clause-visited
-returns-clause-visited c = sides_after_done PassesVisited (side_passes c.spelling_law.ensures)
+returns-clause-visited c =
+    let tiling : TilingLaws = record { value = c.tile_value_law.ensures; shifts = c.shifts_law.ensures.cells; some = c.shifts_law.ensures.some; program = c.tiled_program_law.ensures; apart = c.apart_law.ensures } in
+    let sides : SideRunLaws = record { spelled = c.spelling_law.ensures; side = c.tiled_side_law.ensures; strokes = c.tiled_strokes_law.ensures } in
+    sides_after_done tiling PassesVisited (side_passes sides)
 
 pub returns-clause-walks : goal.returns-clause-walks
-returns-clause-walks c = sides_after_done FollowsWalks (side_follows c.spelling_law.ensures c.run_law.ensures c.stroke_law.ensures)
+returns-clause-walks c =
+    let tiling : TilingLaws = record { value = c.tile_value_law.ensures; shifts = c.shifts_law.ensures.cells; some = c.shifts_law.ensures.some; program = c.tiled_program_law.ensures; apart = c.apart_law.ensures } in
+    let sides : SideRunLaws = record { spelled = c.spelling_law.ensures; side = c.tiled_side_law.ensures; strokes = c.tiled_strokes_law.ensures } in
+    sides_after_done tiling FollowsWalks (side_follows sides)
 
 pub returns-clause-clearing : goal.returns-clause-clearing
-returns-clause-clearing c = sides_after_done Clears side_clears
+returns-clause-clearing c =
+    let tiling : TilingLaws = record { value = c.tile_value_law.ensures; shifts = c.shifts_law.ensures.cells; some = c.shifts_law.ensures.some; program = c.tiled_program_law.ensures; apart = c.apart_law.ensures } in
+    sides_after_done tiling Clears side_clears
 
 pub returns-clause-counts : goal.returns-clause-counts
-returns-clause-counts c = sides_after_done Counts side_counts
+returns-clause-counts c =
+    let tiling : TilingLaws = record { value = c.tile_value_law.ensures; shifts = c.shifts_law.ensures.cells; some = c.shifts_law.ensures.some; program = c.tiled_program_law.ensures; apart = c.apart_law.ensures } in
+    sides_after_done tiling Counts side_counts
 
 pub returns-clause-separates : goal.returns-clause-separates
-returns-clause-separates c = sides_after_done Separates (side_separates c.spelling_law.ensures)
+returns-clause-separates c =
+    let tiling : TilingLaws = record { value = c.tile_value_law.ensures; shifts = c.shifts_law.ensures.cells; some = c.shifts_law.ensures.some; program = c.tiled_program_law.ensures; apart = c.apart_law.ensures } in
+    let sides : SideRunLaws = record { spelled = c.spelling_law.ensures; side = c.tiled_side_law.ensures; strokes = c.tiled_strokes_law.ensures } in
+    sides_after_done tiling Separates (side_separates sides)
 
 pub returns-clause-holes : goal.returns-clause-holes
-returns-clause-holes c = holes_after_done c.spelling_law.ensures c.holes_law.ensures c.few_diameters_law.ensures c.limits_law.ensures
+returns-clause-holes c =
+    let tiling : TilingLaws = record { value = c.tile_value_law.ensures; shifts = c.shifts_law.ensures.cells; some = c.shifts_law.ensures.some; program = c.tiled_program_law.ensures; apart = c.apart_law.ensures } in
+    let holes : HoleLaws = record { spelled = c.spelling_law.ensures; few = c.few_diameters_law.ensures; limits = c.limits_law.ensures; holes = c.tiled_holes_law.ensures.tiles } in
+    holes_after_done tiling holes
 
 pub returns-clause-outline : goal.returns-clause-outline
-returns-clause-outline c = outline_after_done CutsBoardOut (cuts_board_out c.spelling_law.ensures)
+returns-clause-outline c =
+    let tiling : TilingLaws = record { value = c.tile_value_law.ensures; shifts = c.shifts_law.ensures.cells; some = c.shifts_law.ensures.some; program = c.tiled_program_law.ensures; apart = c.apart_law.ensures } in
+    outline_after_done tiling CutsBoardOut (cuts_board_out c.spelling_law.ensures c.tiled_outline_law.ensures)
 
 pub returns-clause-bridges : goal.returns-clause-bridges
-returns-clause-bridges c = outline_after_done LeavesBridges (leaves_bridges c.spelling_law.ensures)
+returns-clause-bridges c =
+    let tiling : TilingLaws = record { value = c.tile_value_law.ensures; shifts = c.shifts_law.ensures.cells; some = c.shifts_law.ensures.some; program = c.tiled_program_law.ensures; apart = c.apart_law.ensures } in
+    outline_after_done tiling LeavesBridges (leaves_bridges c.spelling_law.ensures c.tiled_outline_law.ensures)

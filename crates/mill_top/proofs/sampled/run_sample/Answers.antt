@@ -8,7 +8,8 @@ use Rattle.endings.proofs.RunLaws.{leaves_told, cause_told, lines_told}
 use Rattle.sampling.specs.Words.{words_of}
 use Rattle.sampling.specs.Sampled.{SampleEnds}
 use Rattle.endings.proofs.UsageLaws.{usage_told, usage_behind}
-use Rattle.mill_top.proofs.SampleLaws.{refusal_puts, milled_answers, refusal_answers}
+use Rattle.mill_top.proofs.BehindLaws.{refusal_puts}
+use Rattle.mill_top.proofs.SampleLaws.{milled_answers, refusal_answers}
 use Rattle.mill_top.proofs.sampled.run_sample.Goals as goal
 
 -- ---- a board that was milled
@@ -40,12 +41,12 @@ returns-in-Ok-clause-answers g c shelf =
 
 pub returns-in-Err-clause-leaves : goal.returns-in-Err-clause-leaves
 returns-in-Err-clause-leaves g c shelf =
-    leaves_told (SampleEnds (texts c.args.words.now)) c.in-Err.status c.tell.result (refusal_puts (texts c.args.words.now) c.in-Err.status (λ done. c.in-Err.ensures.refused (cc)))
+    leaves_told (SampleEnds (texts c.args.words.now)) c.in-Err.status c.tell.result (refusal_puts (SampleEnds (texts c.args.words.now)) c.in-Err.status (λ done. c.in-Err.ensures.refused (cc)))
     shelf shelf (g.K.Sink.state c.args.out.now) (g.K.Sink.state c.tell.new.out) (c.in-Err.ensures.works shelf) c.tell.ensures.told
 
 pub returns-in-Err-clause-lines : goal.returns-in-Err-clause-lines
 returns-in-Err-clause-lines g c shelf =
-    lines_told (SampleEnds (texts c.args.words.now)) c.in-Err.status c.tell.result (refusal_puts (texts c.args.words.now) c.in-Err.status (λ done. c.in-Err.ensures.refused (cc)))
+    lines_told (SampleEnds (texts c.args.words.now)) c.in-Err.status c.tell.result (refusal_puts (SampleEnds (texts c.args.words.now)) c.in-Err.status (λ done. c.in-Err.ensures.refused (cc)))
     shelf shelf (g.K.Sink.state c.args.out.now) (g.K.Sink.state c.tell.new.out) (c.in-Err.ensures.works shelf) c.tell.ensures.told
 
 pub returns-in-Err-clause-usage : goal.returns-in-Err-clause-usage

@@ -1,0 +1,9 @@
+pub mod FoundLaws
+pub mod OneLaws
+pub mod RowLaws
+pub mod StrikeLaws
+pub mod MarkLaws
+pub mod SurfaceLaws
+pub mod EndLaws
+pub mod WholeLaws
+pub mod CheckLaws

@@ -1,0 +1,4 @@
+pub mod Ends
+pub mod Surfaces
+pub mod Struck
+pub mod Found

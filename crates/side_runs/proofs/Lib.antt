@@ -1,0 +1,12 @@
+pub mod TestLaws
+pub mod DiagonalLaws
+pub mod FrameLaws
+pub mod NumberLaws
+pub mod SideLaws
+pub mod Translations
+pub mod TileLaws
+pub mod RunLaws
+pub mod AloneLaws
+pub mod ApartLaws
+pub mod StretchLaws
+pub mod ValueLaws
