@@ -1,0 +1,12 @@
+pub mod LineSteps
+pub mod SurfaceLaws
+pub mod BlockLaws
+pub mod AnswerLaws
+pub mod ProbeRuns
+pub mod CutRuns
+pub mod GridRunLaws
+pub mod OverStrokes
+pub mod Numbered
+pub mod GridStrokeLaws
+pub mod DepthLaws
+pub mod Examples

@@ -1,0 +1,4 @@
+pub mod Conditions
+pub mod Moves
+pub mod RunLaw
+pub mod Surface

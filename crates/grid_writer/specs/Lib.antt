@@ -1,0 +1,4 @@
+pub mod Spelling
+pub mod Conditions
+pub mod Parts
+pub mod Laws

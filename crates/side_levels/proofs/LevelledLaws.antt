@@ -1,0 +1,278 @@
+-- What the run of a side's levelled program does.
+use Rattle.std.proofs.Common.{◌≡◌, ℕ, ◌<◌, ℤ, pos, ◌+ℤ◌, ◌-ℤ◌, ◌*ℤ◌, ◌≤ℤ◌, ◌<ℤ◌, Bool, true, List, [], ◌∷◌, ◌++◌, map, Some, refl, sym, ap, subst, ◌∙◌, arith}
+use Rattle.std.specs.List.{Contains}
+use Rattle.std.proofs.lemmas.Int.{ints, by_lt_z}
+use Rattle.std.proofs.lemmas.List.Elements.{All-contains}
+use Rattle.number_laws.proofs.Order.{square_nonneg, mul_le_left, square_le}
+use Rattle.number_laws.proofs.Ring.{var, num, add, sub, mul, ring}
+use Rattle.board_base.specs.declared.places.Point.{Point}
+use Rattle.board_base.specs.declared.places.Cell.{Cell}
+use Rattle.board_base.specs.declared.places.Move.{Move}
+use Rattle.board_base.specs.Lattice.{IsPitch, IsHalfDiagonal, centre_of, dist2, half_diagonal_of}
+use Rattle.board_base.specs.Near.{near_of}
+use Rattle.cell_grid.specs.declared.frames.Frame.{Frame}
+use Rattle.cell_grid.proofs.CellsLaws.{in_frame_true}
+use Rattle.cell_sets.specs.Barrier.{IsPast}
+use Rattle.cell_sets.specs.Islands.{AreIslands}
+use Rattle.cell_sets.specs.Sweep.{IsSwept}
+use Rattle.cell_sets.proofs.Barriers.{refl_le}
+use Rattle.cell_sets.proofs.Counts.{numbered_kept}
+use Rattle.cell_sets.proofs.Links.{linked_over}
+use Rattle.chain_walk.specs.Runs.{stepped, IsOnRun}
+use Rattle.plane_geom.specs.NearStep.{length2}
+use Rattle.plane_geom.proofs.HalfStep.{on_lattice, on_run}
+use Rattle.plane_geom.proofs.Points.{near_point, point_near}
+use Rattle.separation_check.proofs.Pairs.{pair_law_holds}
+use Rattle.shape_parts.specs.declared.shape.Painted.{Painted}
+use Rattle.rs274_sim.specs.Cutter.{nanometre, scaled, under, width_of, IsLow, Sweeps}
+use Rattle.mill_program.specs.declared.probes.ProbeGrid.{ProbeGrid}
+use Rattle.mill_program.specs.Moves.{unnumbered}
+use Rattle.mill_program.specs.Probes.{IsGrid, FitGrid, surface}
+use Rattle.levelling.specs.Pieces.{levelled}
+use Rattle.grid_runs.specs.Moves.{moves_over}
+use Rattle.grid_runs.specs.RunLaw.{GridRunLaw}
+use Rattle.job_file.specs.declared.job.Job.{Job}
+use Rattle.mill_plan.specs.declared.cutting.Cutting.{Cutting}
+use Rattle.mill_plan.specs.declared.isolation.Isolation.{Isolation}
+use Rattle.mill_plan.specs.Job.{IsSideJob}
+use Rattle.mill_plan.specs.Cutting.{kept_by, sweep_of, side_cutting, IsVisited}
+use Rattle.mill_plan.specs.Cuts.{all_of, AreTraces}
+use Rattle.mill_plan.specs.Isolated.{IsIsolationOf, IsLeft, AreJoinedGroups}
+use Rattle.mill_plan.proofs.JobLaws.{IsMilling, milling_is}
+use Rattle.mill_plan.proofs.MillsLaws.{lattice_is, near_visited}
+use Rattle.mill_plan.proofs.MoveLaws.{IsOverRun, IsGuarded, numbered, from_numbered}
+use Rattle.mill_plan.proofs.PointLaws.{same_cell, between}
+use Rattle.program_check.specs.Cutters.{IsCutter}
+use Rattle.program_check.specs.Hits.{IsClear}
+use Rattle.program_check.specs.Marks.{IsPassedBy, IsWhollySweptBy, PartsOthersBy}
+use Rattle.program_check.specs.Own.{Follows, MarksSwept, IsOwn}
+use Rattle.program_check.proofs.AlongLaws.{along_holds}
+use Rattle.program_check.proofs.OwnLaws.{own_clear_holds, own_mark_holds, past_allowed}
+use Rattle.program_check.proofs.SoundLaws.{clear_holds, marked_swept}
+use Rattle.side_runs.specs.OwnSide.{AreSideTests}
+use Rattle.side_runs.proofs.FrameLaws.{kept_inside}
+use Rattle.side_runs.proofs.NumberLaws.{one_numbering}
+use Rattle.side_runs.proofs.SideLaws.{cutter, side_tests_holds}
+use Rattle.side_levels.specs.Lattices.{IsProgramAlong, run_with, program_over}
+use Rattle.side_levels.specs.LevelledSide.{IsDeepOn, PassesOver, MillsOver, LevelledSideLaw, LevelledRunLaw}
+use Rattle.side_levels.proofs.LatticeLaws.{side_traces, levelled_along}
+use Rattle.side_levels.proofs.OverLaws.{deep_low, step_on, step_deep, step_from, step_to, moves_guarded, moves_there}
+use Rattle.side_levels.proofs.ProbedLaws.{probed_holds}
+
+-- ---- centres
+
+-- the centres of two cells are farther apart than half of a diagonal
+one_centre : (p h : ℤ) (a b : Cell) → IsPitch p → IsHalfDiagonal p h → near_of (centre_of p a) (centre_of p b) (centre_of p b) (pos 2 *ℤ (pos 0 +ℤ h)) ≡ true → a ≡ b
+one_centre p h a b pitch diagonal near =
+    let l : ℤ = length2 ((centre_of p a).x -ℤ (centre_of p b).x) ((centre_of p a).y -ℤ (centre_of p b).y) in
+    let close = near_point (centre_of p a) (centre_of p b) (pos 2 *ℤ (pos 0 +ℤ h)) near in
+    let squared : (pos 2 *ℤ (pos 0 +ℤ h)) *ℤ (pos 2 *ℤ (pos 0 +ℤ h)) ≡ pos 4 *ℤ (h *ℤ h) =
+    ring (h ∷ []) (mul (mul (num (pos 2)) (add (num (pos 0)) (var 0))) (mul (num (pos 2)) (add (num (pos 0)) (var 0)))) (mul (num (pos 4)) (mul (var 0) (var 0))) refl in
+    by_lt_z (pos 0) (dist2 b a)
+    (λ (far : pos 0 <ℤ dist2 b a).
+    let less = mul_le_left (p *ℤ p) (pos 1) (dist2 b a) (square_nonneg p) (from_one (dist2 b a) far) in
+    let once : (p *ℤ p) *ℤ pos 1 ≡ p *ℤ p = ring (p ∷ []) (mul (mul (var 0) (var 0)) (num (pos 1))) (mul (var 0) (var 0)) refl in
+    absurd (never (square_le p h (weak h diagonal.positive) (within l ((p *ℤ p) *ℤ dist2 b a) ((p *ℤ p) *ℤ pos 1) (p *ℤ p) (h *ℤ h) ((pos 2 *ℤ (pos 0 +ℤ h)) *ℤ (pos 2 *ℤ (pos 0 +ℤ h))) (between p a b) once squared less close))))
+    (λ (none : dist2 b a ≤ℤ pos 0).
+    let at_most = mul_le_left (p *ℤ p) (dist2 b a) (pos 0) (square_nonneg p) none in
+    let nothing : (p *ℤ p) *ℤ pos 0 ≡ pos 0 = ring (p ∷ []) (mul (mul (var 0) (var 0)) (num (pos 0))) (num (pos 0)) refl in
+    same_cell p a b pitch (point_near (centre_of p a) (centre_of p b) (pos 2 *ℤ pos 0) (spot l ((p *ℤ p) *ℤ dist2 b a) ((p *ℤ p) *ℤ pos 0) (between p a b) nothing at_most)))
+  where
+    from_one : (d : ℤ) → pos 0 <ℤ d → pos 1 ≤ℤ d
+    from_one d k = omega (arith, ints, k)
+
+    weak : (d : ℤ) → pos 0 <ℤ d → pos 0 ≤ℤ d
+    weak d k = omega (arith, ints, k)
+
+    within : (l m o s t u : ℤ) → l ≡ m → o ≡ s → u ≡ pos 4 *ℤ t → o ≤ℤ m → (pos 4 *ℤ l) ≤ℤ u → s ≤ℤ t
+    within l m o s t u e f g a b = omega (arith, ints, e, f, g, a, b)
+
+    spot : (l m z : ℤ) → l ≡ m → z ≡ pos 0 → m ≤ℤ z → (pos 4 *ℤ l) ≤ℤ ((pos 2 *ℤ pos 0) *ℤ (pos 2 *ℤ pos 0))
+    spot l m z e f a = omega (arith, ints, e, f, a)
+
+    -- half of a diagonal is less than the pitch
+    never : p ≤ℤ h → ⊥
+    never long =
+        let m : ℤ = h -ℤ pos 1 in
+        let n : ℤ = p -ℤ pos 1 in
+        let low = mul_le_left n n m (some p pitch.low) (less p h long) in
+        let high = mul_le_left m n m (some_more p h pitch.low long) (less p h long) in
+        let turned : m *ℤ n ≡ n *ℤ m = ring (p ∷ h ∷ []) (mul (sub (var 1) (num (pos 1))) (sub (var 0) (num (pos 1)))) (mul (sub (var 0) (num (pos 1))) (sub (var 1) (num (pos 1)))) refl in
+        let spread : n *ℤ n ≡ p *ℤ p -ℤ pos 2 *ℤ p +ℤ pos 1 = ring (p ∷ []) (mul (sub (var 0) (num (pos 1))) (sub (var 0) (num (pos 1)))) (add (sub (mul (var 0) (var 0)) (mul (num (pos 2)) (var 0))) (num (pos 1))) refl in
+        let large = mul_le_left p (pos 250) p (positive p pitch.low) pitch.low in
+        let by : p *ℤ pos 250 ≡ pos 250 *ℤ p = ring (p ∷ []) (mul (var 0) (num (pos 250))) (mul (num (pos 250)) (var 0)) refl in
+        close (n *ℤ n) (n *ℤ m) (m *ℤ n) (m *ℤ m) (p *ℤ p) p (p *ℤ pos 250) low high turned spread diagonal.least large by pitch.low
+      where
+        some : (p : ℤ) → pos 250 ≤ℤ p → pos 0 ≤ℤ (p -ℤ pos 1)
+        some p k = omega (arith, ints, k)
+
+        some_more : (p h : ℤ) → pos 250 ≤ℤ p → p ≤ℤ h → pos 0 ≤ℤ (h -ℤ pos 1)
+        some_more p h k l = omega (arith, ints, k, l)
+
+        less : (p h : ℤ) → p ≤ℤ h → (p -ℤ pos 1) ≤ℤ (h -ℤ pos 1)
+        less p h k = omega (arith, ints, k)
+
+        positive : (p : ℤ) → pos 250 ≤ℤ p → pos 0 ≤ℤ p
+        positive p k = omega (arith, ints, k)
+
+        close : (nn nm mn mm pp p w : ℤ) → nn ≤ℤ nm → mn ≤ℤ mm → mn ≡ nm → nn ≡ pp -ℤ pos 2 *ℤ p +ℤ pos 1 → (pos 2 *ℤ mm) <ℤ pp → w ≤ℤ pp → w ≡ pos 250 *ℤ p → pos 250 ≤ℤ p → ⊥
+        close nn nm mn mm pp p w a b e f l k i o = omega (arith, ints, a, b, e, f, l, k, i, o)
+
+-- a cell of a run is passed by a move over the run
+sweeps_on : (job : Job) (w : List Cell) (x y c : Cell) (move : Move) → IsOnRun w x y c → under move.from ≡ scaled (centre_of job.pitch x) → under move.to ≡ scaled (centre_of job.pitch y) → Sweeps move (centre_of job.pitch c) (pos 0)
+unfolding width_of
+sweeps_on job w x y c move o starts stops =
+    let p : ℤ = job.pitch in
+    let k = o.run in
+    let a : Point = scaled (centre_of p x) in
+    let here : scaled (centre_of p c) ≡ on_lattice a (p *ℤ nanometre) k.east k.north (pos o.at) = ap (λ (d : Cell). scaled (centre_of p d)) o.is ∙ lattice_is p x k.east k.north o.at in
+    let end : under move.to ≡ on_lattice a (p *ℤ nanometre) k.east k.north (pos k.count) = stops ∙ ap (λ (d : Cell). scaled (centre_of p d)) k.ends ∙ lattice_is p x k.east k.north k.count in
+    subst (λ (q : Point). near_of q (under move.from) (under move.to) (pos 0) ≡ true) (sym here)
+    (subst (λ (b : Point). near_of (on_lattice a (p *ℤ nanometre) k.east k.north (pos o.at)) (under move.from) b (pos 0) ≡ true) (sym end)
+    (subst (λ (b : Point). near_of (on_lattice a (p *ℤ nanometre) k.east k.north (pos o.at)) b (on_lattice a (p *ℤ nanometre) k.east k.north (pos k.count)) (pos 0) ≡ true) (sym starts)
+    (on_run (p *ℤ nanometre) a k.east k.north o.at k.count o.early)))
+
+-- ---- the side
+
+module _ (job : Job) (painted : List Painted) (plan : Isolation) (ok : IsSideJob job) (i : IsIsolationOf job painted plan) where
+  abbrev k : Cutting
+  k = side_cutting job
+
+  abbrev walks : List (List Cell)
+  walks = all_of i.traced.passes ++ i.traced.runs
+
+  milling : IsMilling job
+  milling = milling_is job ok
+
+  traces : AreTraces k painted walks
+  traces = side_traces job painted plan i
+
+  cuts : IsCutter k
+  cuts = cutter job painted plan ok i
+
+  module _ (g : ProbeGrid) (answers : List ℤ) (moves : List Move) (p : IsProgramAlong job walks g (levelled g job.pitch plan.program)) (are : map unnumbered moves ≡ moves_over g answers (levelled g job.pitch plan.program)) where
+    abbrev Deep : Move → Type 0
+    Deep = IsDeepOn job g answers
+
+    same : map unnumbered moves ≡ moves_over g answers (program_over job g p.cuts)
+    same = are ∙ ap (moves_over g answers) p.is
+
+    low_over : (move : Move) → Contains moves move → IsLow (job.zsafe *ℤ nanometre) move → IsOverRun job walks move
+    low_over move there low =
+        let o = All-contains (IsGuarded job walks) (moves_over g answers (program_over job g p.cuts)) (unnumbered move) (moves_guarded job g answers walks p.cuts milling p.along)
+        (subst (λ (steps : List Move). Contains steps (unnumbered move)) same (numbered moves move there)) low in
+        record { walk = o.walk; there = o.there; from = o.from; to = o.to; run = o.run; starts = o.starts; stops = o.stops }
+
+    passed : (c : Cell) → IsVisited k painted c → IsPassedBy Deep moves (centre_of job.pitch c) (pos 0)
+    passed c seen =
+        let t = traces.all c seen in
+        let s = moves_there job g answers walks p.cuts milling p.along t.0 c t.1.0 t.1.1 in
+        let step : Move = step_on job g answers walks (run_with job p.cuts) s.from s.to in
+        let found = from_numbered moves step (subst (λ (steps : List Move). Contains steps step) (sym same) s.there) in (
+          found.0,
+          found.1,
+          subst Deep (sym found.2) (step_deep job g answers walks (run_with job p.cuts) s.from s.to),
+          subst (λ (m : Move). Sweeps m (centre_of job.pitch c) (pos 0)) (sym found.2)
+              (sweeps_on job s.walk s.from s.to c step s.on (step_from job g answers walks (run_with job p.cuts) s.from s.to)
+              (step_to job g answers walks (run_with job p.cuts) s.from s.to)),
+        )
+
+    module _ (grid : IsGrid g) (range : g.range <ℤ job.zsafe) (fit : FitGrid g answers) where
+      passes : PassesOver job painted g answers moves
+      unfolding side_cutting
+      passes c = (
+        (λ by.
+            let low = deep_low job g answers by.0 milling grid range fit by.2 in
+            let v = near_visited job walks by.0 (centre_of job.pitch c) (pos 0) cuts.diagonal (refl_le (pos 0)) (low_over by.0 by.1 low) by.3 in
+            let one : c ≡ v.cell = one_centre job.pitch (half_diagonal_of job.pitch) c v.cell milling.pitch cuts.diagonal v.near in
+            subst (IsVisited k painted) (sym one) (traces.each v.walk v.cell v.there v.inside)),
+        passed c,
+      )
+
+      module _ (allowed visited : Cell → Bool) (tests : AreSideTests k painted plan.frame allowed visited) where
+        follows_visited : (move : Move) → Contains moves move → IsLow (job.zsafe *ℤ nanometre) move → Follows k (λ c. visited c ≡ true) move
+        unfolding side_cutting
+        follows_visited move there low =
+            let o = low_over move there low in
+            along_holds k visited move cuts (record {
+              first = o.from;
+              east = o.run.east;
+              north = o.run.north;
+              count = o.run.count;
+              unit_east = o.run.unit_east;
+              unit_north = o.run.unit_north;
+              from = o.starts;
+              to = o.stops ∙ ap (λ (c : Cell). scaled (centre_of job.pitch c)) o.run.ends;
+              each = λ n early. (tests.visited_are (stepped o.from o.run.east o.run.north n)).1 (traces.each o.walk (stepped o.from o.run.east o.run.north n) o.there (o.run.through n early));
+            })
+
+        own : IsOwn k painted plan.frame job.zsafe Deep moves allowed visited
+        unfolding side_cutting
+        own = record {
+          allowed_are = tests.allowed_are;
+          barrier = tests.barrier;
+          inside = tests.inside;
+          outside = tests.outside;
+          follows = λ move there low q r r_in swept. (let f = follows_visited move there low q r r_in swept in (f.0, tests.barrier.within f.0 f.1, f.2));
+          passes = λ v seen. passed v ((tests.visited_are v).0 seen);
+        }
+
+        clear : IsClear k painted job.zsafe moves
+        clear = own_clear_holds k painted job.zsafe moves cuts (λ move there low q r r_in swept. (let f = own.follows move there low q r r_in swept in (f.0, (own.allowed_are f.0).0 f.1, f.2)))
+
+        -- what visited cells sweep is wholly swept, seen from a frame that has the cell
+        wholly : (c : Cell) → IsSwept (sweep_of k) (λ v. visited v ≡ true) c → IsWhollySweptBy k Deep moves c
+        wholly c swept =
+            let around : Frame = record { pitch = k.pitch; i0 = c.i; j0 = c.j; width = 1; height = 1 } in
+            marked_swept k around Deep moves c cuts
+            (in_frame_true around c (record { column = record { low = refl_le c.i; high = next c.i }; row = record { low = refl_le c.j; high = next c.j } }), own_mark_holds k (surface (Some g) answers) job.zwork moves visited c cuts own.passes swept)
+          where
+            next : (v : ℤ) → v <ℤ (v +ℤ pos 1)
+            next v = omega (arith, ints)
+
+        parts : (number : Cell → ℕ) (count : ℕ) → AreIslands (kept_by k painted) number count → PartsOthersBy k Deep number plan.groups.items moves
+        parts number count islands u v su sv ne joined =
+            let one = one_numbering (kept_by k painted) plan.frame (kept_inside k painted plan.frame milling.cutting i.framed) number i.number count plan.islands islands i.islands in
+            let listed : AreJoinedGroups k painted number plan.groups.items = subst (λ (n : Cell → ℕ). AreJoinedGroups k painted n plan.groups.items) (λ t c. sym (one c) t) i.groups in
+            let on : kept_by k painted joined.0 ≡ true = numbered_kept (kept_by k painted) number count islands joined.0 (subst (λ (n : ℕ). 0 < n) (sym joined.2.0) su) in
+            let marks : MarksSwept (sweep_of k) allowed visited plan.frame (IsWhollySweptBy k Deep moves) = record {
+              inside = own.inside;
+              outside = own.outside;
+              unmarked = λ c inside free swept. free (wholly c swept);
+            } in
+            let past = past_allowed (sweep_of k) allowed visited (kept_by k painted) plan.frame (IsWhollySweptBy k Deep moves) own.barrier marks joined.0 joined.1 on joined.2.2 in
+            (pair_law_holds (IsLeft k painted) number plan.groups.items listed u v su sv ne).1 (
+              joined.0,
+              joined.1,
+              (
+                joined.2.0,
+                joined.2.1,
+                linked_over (IsPast (sweep_of k) allowed) (IsLeft k painted) (λ c left swept. left (record { from = swept.from; member = (own.allowed_are swept.from).1 swept.member; within = swept.within })) joined.0 joined.1 past,
+              ),
+            )
+
+        pub mills_over : MillsOver job painted plan g answers moves
+        mills_over = record {
+          own = record { allowed = allowed; visited = visited; tests = tests; own = own; along = follows_visited };
+          clear = clear;
+          no_bite = clear_holds k painted job.zsafe moves cuts clear;
+          passes = passes;
+          swept = λ c reached. wholly c (record { from = reached.from; member = (tests.visited_are reached.from).1 reached.member; within = reached.within });
+          parts = parts;
+        }
+
+pub levelled_side_holds : LevelledSideLaw
+unfolding levelled
+levelled_side_holds job painted plan g answers moves ok i asked over fit are =
+    let l = probed_holds.levelled_is job painted plan g ok i asked over in
+    let range : g.range <ℤ job.zsafe = subst (λ (s : ℤ). g.range <ℤ s) i.words.safe l.program.range in
+    let walks : List (List Cell) = all_of i.traced.passes ++ i.traced.runs in
+    let p = levelled_along job walks g plan.program (milling_is job ok).pitch i.traced.is (side_traces job painted plan i).connected in
+    let t = side_tests_holds job painted plan ok i in
+    mills_over job painted plan ok i g answers moves p are l.grid range fit t.0 t.1 t.2
+
+pub levelled_run_holds : GridRunLaw → LevelledRunLaw
+levelled_run_holds law job painted plan g answers ok i asked over fit reach =
+    let l = probed_holds.levelled_is job painted plan g ok i asked over in
+    let found = law g answers (levelled g job.pitch plan.program) l.program l.runnable fit reach in
+    (found.0, found.1, found.2, levelled_side_holds job painted plan g answers found.0 ok i asked over fit found.2)

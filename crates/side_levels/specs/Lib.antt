@@ -1,0 +1,3 @@
+pub mod Lattices
+pub mod Probed
+pub mod LevelledSide
