@@ -2,4 +2,8 @@ pub mod PartLaws
 pub mod PlainLaws
 pub mod TextLaws
 pub mod ProbeLaws
+pub mod NumberTexts
+pub mod HeightTexts
+pub mod LineTexts
+pub mod ProgramTexts
 pub mod Examples

@@ -31,7 +31,7 @@ size_neg : (n : ℕ) → unsigned_abs (neg_ℤ (pos n)) ≡ n
 size_neg zero = refl
 size_neg (suc n) = refl
 
-size_times : (z : ℤ) (k : ℕ) → unsigned_abs (z *ℤ pos k) ≡ unsigned_abs z * k
+pub size_times : (z : ℤ) (k : ℕ) → unsigned_abs (z *ℤ pos k) ≡ unsigned_abs z * k
 size_times (pos n) k = refl
 size_times (negsuc n) k = size_neg (suc n * k)
 

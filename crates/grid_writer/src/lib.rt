@@ -8,5 +8,5 @@ mod parts;
 mod probing;
 mod program;
 
-pub use laws::plain_text_law;
+pub use laws::{plain_text_law, spelling_over_law};
 pub use program::write_over;
