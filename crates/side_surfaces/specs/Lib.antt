@@ -1,0 +1,5 @@
+pub mod Runs
+pub mod Sides
+pub mod Strokes
+pub mod Levelled
+pub mod Flat
