@@ -1,11 +1,11 @@
 -- What `check` says of a program that `mill` makes of the same job and image.
-use Rattle.std.specs.Prelude.{◌≡◌, ◌⊎◌, ℕ, List, None, Ok}
+use Rattle.std.specs.Prelude.{◌≡◌, ◌⊎◌, ℕ, List, Option, Ok}
 use Rattle.board_base.specs.Counts.{Rose}
 use Rattle.board_base.specs.Files.{Files}
 use Rattle.board_base.specs.Shelf.{ShelfState}
 use Rattle.board_base.specs.Sink.{SinkState}
-use Rattle.rs274_sim.specs.Spelling.{text_of}
-use Rattle.mill_program.specs.Lines.{lines_of}
+use Rattle.mill_program.specs.declared.probes.ProbeGrid.{ProbeGrid}
+use Rattle.mill_program.specs.Probes.{Fit}
 use Rattle.mill_plan.specs.declared.isolation.Isolation.{Isolation}
 use Rattle.mill_plan.specs.Isolated.{IsIsolationOf}
 use Rattle.program_check.specs.Own.{ListsOnly}
@@ -15,23 +15,30 @@ use Rattle.endings.specs.declared.status.Status.TheVariants.{Done, Memory}
 use Rattle.endings.specs.Answers.{IfTold}
 use Rattle.endings.specs.Reads.{held_in}
 use Rattle.endings.specs.Run.{HasCause, Tells}
+use Rattle.side_surfaces.specs.Runs.{InReach}
+use Rattle.mill_outputs.specs.Written.{levelled_if}
+use Rattle.mill_outputs.specs.Mill.{program_text}
 use Rattle.mill_outputs.specs.Headline.{Side}
 use Rattle.checking.specs.Accepted.{Accepts, accepted}
 use Rattle.checking.specs.Checked.{Checked, CheckEnds}
 use Rattle.checking.specs.Sound.{Passed}
 
--- the program is the text of the lines of a plan that isolates this image by this job, and the side isn't levelled
+-- The program is the text of a plan's, which isolates this image by this job, over the side's grid of probes, if any. The
+-- answers fit that grid, and its probes are within the machine's reach.
 pub record IsOwnProgram (x : Accepts) (plan : Isolation) : Type 0 where
   pub planned : IsIsolationOf x.job x.painted plan
-  pub written : x.program ≡ text_of (lines_of plan.program)
-  pub flat : grid_over_side x.side x.job plan.frame ≡ Ok None
+  pub grid : Option ProbeGrid
+  pub over : grid_over_side x.side x.job plan.frame ≡ Ok grid
+  pub written : x.program ≡ program_text (levelled_if grid x.job.pitch plan.program)
+  pub fits : Fit grid x.answers
+  pub reach : InReach grid
 
--- where `check` accepts the job, the image and the program of a side that was milled in one tile and isn't levelled, that is
--- one, by the plan of the report
+-- where `check` accepts the job, the image and the program of a side that was milled in one tile, with answers that fit its
+-- grid of probes, if any, that is one, by the plan of the report
 abbrev pub GivesOwn : Side → Type 0
 GivesOwn side =
     (x : Accepts) → x.job ≡ side.job → x.painted ≡ side.image → x.program ≡ side.program → x.job.tile_x ≡ 1 → x.job.tile_y ≡ 1
-    → grid_over_side x.side x.job side.plan.frame ≡ Ok None
+    → grid_over_side x.side x.job side.plan.frame ≡ Ok side.grid → Fit side.grid x.answers → InReach side.grid
     → IsOwnProgram x side.plan
 
 -- no count of faults rose: of the shelf's reads, of its writes, of the sink's puts

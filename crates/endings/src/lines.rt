@@ -113,7 +113,6 @@ fn name_of_job(kind: JobKind) -> &'static str
         JobKind::BadValue => "BadValue",
         JobKind::Missing => "Missing",
         JobKind::OutOfRange => "OutOfRange",
-        JobKind::NotBuiltYet => "NotBuiltYet",
         JobKind::TolerancePastCutter => "TolerancePastCutter",
         JobKind::PitchTooCoarse => "PitchTooCoarse",
         JobKind::Memory => "Memory",

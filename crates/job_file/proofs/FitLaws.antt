@@ -1,6 +1,6 @@
 -- What is read fits what the table says of its key.
 use Rattle.std.proofs.Common.{◌≡◌, ℕ, ◌+◌, ◌≤◌, ◌%◌, Bool, true, false, cond, List, [], ◌∷◌, length, map, Option, Result, Ok, Err, refl, sym, ap, subst, arith, ℤ, pos, negsuc, nat_le}
-use Rattle.std.specs.Prelude.{◌*ℤ◌, ◌≤ℤ◌, int_le, not}
+use Rattle.std.specs.Prelude.{◌*ℤ◌, ◌≤ℤ◌, int_le}
 use Rattle.std.specs.Bool.{beq}
 use Rattle.std.specs.Int.{int_div_euclid}
 use Rattle.std.specs.List.{list_all, AllByRecursion}
@@ -12,14 +12,14 @@ use Rattle.number_laws.proofs.Tests.{to_le, is_up_to}
 use Rattle.number_laws.proofs.Quotients.{rounded_low, rounded_high}
 use Rattle.board_base.specs.Binds.{◌>>=◌}
 use Rattle.job_file.specs.declared.error.JobKind.{JobKind}
-use Rattle.job_file.specs.declared.error.JobKind.TheVariants.{BadValue, OutOfRange, NotBuiltYet}
+use Rattle.job_file.specs.declared.error.JobKind.TheVariants.{BadValue, OutOfRange}
 use Rattle.job_file.specs.declared.keys.Kind.{Kind}
 use Rattle.job_file.specs.declared.keys.Kind.TheVariants as kinds
 use Rattle.job_file.specs.declared.value.Value.{Value}
 use Rattle.job_file.specs.declared.value.Value.TheVariants as values
 use Rattle.job_file.specs.Keys.{micrometres, kind_of}
 use Rattle.job_file.specs.Numbers.{or_bad, checked, truth_of, length_of, feed_of, whole_of, without_percent, pieces, lengths_of, is_between, is_counted, is_even, is_name, is_printable, is_plain_sign}
-use Rattle.job_file.specs.Reads.{ranged, even_ranged, counted, paced, named, few_lengths, all_ranged, truth_value, only_value, length_value, even_length_value, sizes_value, lengths_value, feed_value, count_value, read_of, is_ahead, value_read}
+use Rattle.job_file.specs.Reads.{ranged, even_ranged, counted, paced, named, few_lengths, all_ranged, truth_value, only_value, length_value, even_length_value, sizes_value, lengths_value, feed_value, count_value, read_of, value_read}
 use Rattle.job_file.specs.Ranges.{IsLength, IsEvenLength, AreLengths, IsFeed, IsCount}
 use Rattle.job_file.specs.Fits.{Fits}
 
@@ -194,7 +194,4 @@ reads_fit (kinds.Percent least most d) text = percent_fits least most d (without
 -- what is read as a value of a key is one of its kind
 pub value_fits_key : (key : ℕ) (text : List ℕ) → FitsWhole (kind_of key) (value_read key text)
 unfolding value_read
-value_fits_key key text v e =
-    let s = step (read_of (kind_of key) text) (λ value. checked (not (is_ahead key value)) NotBuiltYet value) v e in
-    let p = passed (not (is_ahead key s.0)) NotBuiltYet s.0 v s.2 in
-    subst (Fits (kind_of key)) p.1 (reads_fit (kind_of key) text s.0 s.1)
+value_fits_key key text v e = reads_fit (kind_of key) text v e

@@ -1,10 +1,10 @@
 -- What a text says as the value of a key.
-use Rattle.std.specs.Prelude.{◌≡◌, ℕ, ℤ, pos, List, length, map, Bool, true, false, not, ◌&&◌, ◌||◌, ◌==◌, if◌then◌else◌, nat_le, Result, Ok, Err}
+use Rattle.std.specs.Prelude.{◌≡◌, ℕ, ℤ, pos, List, length, map, Bool, if◌then◌else◌, nat_le, Result, Ok, Err}
 use Rattle.std.specs.List.{list_all}
 use Rattle.std.specs.Bool.{beq}
 use Rattle.board_base.specs.Binds.{◌>>=◌}
 use Rattle.job_file.specs.declared.error.JobKind.{JobKind}
-use Rattle.job_file.specs.declared.error.JobKind.TheVariants.{BadValue, OutOfRange, NotBuiltYet, Memory}
+use Rattle.job_file.specs.declared.error.JobKind.TheVariants.{BadValue, OutOfRange, Memory}
 use Rattle.job_file.specs.declared.keys.Kind.{Kind}
 use Rattle.job_file.specs.declared.keys.Kind.TheVariants as kinds
 use Rattle.job_file.specs.declared.value.Value.{Value}
@@ -97,20 +97,9 @@ read_of (kinds.Feed default) text = feed_value text
 read_of (kinds.Whole least most default) text = count_value least most text
 read_of (kinds.Percent least most default) text = count_value least most (without_percent text)
 
--- the value is yes
-abbrev pub is_yes : Value → Bool
-is_yes (Truth truth) = truth
-is_yes _ = false
-
--- what a value of this key asks for isn't built yet: levelling
-unfoldable pub is_ahead : ℕ → Value → Bool
-is_ahead key value = (key == 33) && is_yes value
-
 -- the value that a text is of the key with this number
 unfoldable pub value_read : ℕ → List ℕ → Result Value JobKind
-value_read key text = do
-  value ← read_of (kind_of key) text
-  checked (not (is_ahead key value)) NotBuiltYet value
+value_read key text = read_of (kind_of key) text
 
 -- a refusal is the one that is expected, or want of memory
 abbrev pub Fails : {Y : Type 0} → Result Y JobKind → JobKind → Type 0

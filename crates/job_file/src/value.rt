@@ -3,7 +3,7 @@ ghost use Rattle.std.specs.Prelude.{◌≡◌, ◌<◌, ◌⊎◌, ◌++◌, ◌
 ghost use Rattle.std.specs.Option.{option_map};
 ghost use Rattle.job_file.specs.Keys.{IsKey, kind_of as kind_in, micrometres};
 ghost use Rattle.job_file.specs.Numbers.{is_between as is_between_in, is_name, is_printable, is_plain_sign, pieces, pieces_left};
-ghost use Rattle.job_file.specs.Reads.{Answers, AnswersBy, read_of, truth_value as truth_value_of, only_value as only_value_of, length_value as length_value_of, even_length_value as even_length_value_of, sizes_value as sizes_value_of, lengths_value as lengths_value_of, feed_value as feed_value_of, count_value as count_value_of, ranged as ranged_of, even_ranged as even_ranged_of, counted as counted_of, paced as paced_of, named as named_of, few_lengths as few_lengths_of, all_ranged as all_ranged_of, is_yes as is_yes_of, is_ahead as is_ahead_in, value_read};
+ghost use Rattle.job_file.specs.Reads.{Answers, AnswersBy, read_of, truth_value as truth_value_of, only_value as only_value_of, length_value as length_value_of, even_length_value as even_length_value_of, sizes_value as sizes_value_of, lengths_value as lengths_value_of, feed_value as feed_value_of, count_value as count_value_of, ranged as ranged_of, even_ranged as even_ranged_of, counted as counted_of, paced as paced_of, named as named_of, few_lengths as few_lengths_of, all_ranged as all_ranged_of, value_read};
 
 use crate::error::JobKind;
 use crate::keys::{Kind, kind_of};
@@ -285,33 +285,11 @@ fn value_of_kind(alloc: Global, kind: Kind, text: &[u8]) -> Result<Value, JobKin
     }
 }
 
-// Whether a value is yes.
-fn is_yes(value: &Value) -> bool
-    ensures { result ≡ is_yes_of value.now }
-{
-    match value {
-        Value::Truth(truth) => *truth,
-        _ => false,
-    }
-}
-
-// Whether what this value asks for isn't built yet: levelling.
-#[tactic(auto, unfolding(crate::specs::Reads::is_ahead))]
-fn is_ahead(key: u8, value: &Value) -> bool
-    ensures { result ≡ is_ahead_in key value.now }
-{
-    key == 33 && is_yes(value)
-}
-
 /// The value that a text is of the key with this number.
 #[tactic(auto, unfolding(crate::specs::Reads::value_read))]
 pub fn read_value(alloc: Global, key: u8, text: &[u8]) -> Result<Value, JobKind>
     requires { IsKey key }
     ensures { Answers (value_read key text.now) result }
 {
-    let value = value_of_kind(alloc, kind_of(key), text)?;
-    if is_ahead(key, &value) {
-        return Err(JobKind::NotBuiltYet);
-    }
-    Ok(value)
+    value_of_kind(alloc, kind_of(key), text)
 }

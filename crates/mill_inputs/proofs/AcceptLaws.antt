@@ -78,7 +78,6 @@ job_refusals jobs.TwiceGiven error = tt
 job_refusals jobs.BadValue error = tt
 job_refusals jobs.Missing error = tt
 job_refusals jobs.OutOfRange error = tt
-job_refusals jobs.NotBuiltYet error = tt
 job_refusals jobs.TolerancePastCutter error = tt
 job_refusals jobs.PitchTooCoarse error = tt
 job_refusals jobs.Memory error = tt

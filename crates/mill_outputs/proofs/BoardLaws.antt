@@ -6,10 +6,9 @@ use Rattle.board_base.specs.declared.places.Move.{Move}
 use Rattle.shape_parts.specs.declared.shape.Painted.{Painted}
 use Rattle.rs274_sim.specs.Cutter.{NoBite, nanometre}
 use Rattle.rs274_sim.specs.Runs.{RunsTo}
-use Rattle.rs274_sim.specs.Spelling.{text_of}
-use Rattle.ngc_writer.specs.Spelled.{SpellingLaw}
 use Rattle.mill_program.specs.declared.cuts.Program.{Program}
 use Rattle.mill_program.specs.Lines.{lines_of}
+use Rattle.grid_writer.specs.Laws.{SpellingOverLaw}
 use Rattle.tiling.specs.Copies.{Tile, shift_in, tiled_in}
 use Rattle.tiling.specs.Stretches.{InTiles}
 use Rattle.tiling.proofs.StretchLaws.{in_tiles_weaker}
@@ -35,16 +34,16 @@ cuts_in : TiledOutlineLaw → (job : Job) (tiles : List Tile) (image : List Pain
     → RunsTo (lines_of (tiled_in job.pitch tiles plan.program)) (InTiles (map (shift_in job.pitch) tiles) (Outlines job b.cuts.loops (plan.bridges).items b.cuts.walks plan.program))
 cuts_in law job tiles image plan q b = law job image plan (map (shift_in job.pitch) tiles) b.some b.ranges b.cuts b.tiled.valid
 
-pub cuts_board_out : SpellingLaw → TiledOutlineLaw → (job : Job) (tiles : List Tile) (image : List Painted) (plan : OutlineCut) (q : Program) → IsBoardIn job tiles image plan q
-    → CutsBoardOut (cut_board job tiles image plan (text_of (lines_of q)))
+pub cuts_board_out : SpellingOverLaw → TiledOutlineLaw → (job : Job) (tiles : List Tile) (image : List Painted) (plan : OutlineCut) (q : Program) → IsBoardIn job tiles image plan q
+    → CutsBoardOut (cut_board job tiles image plan q)
 cuts_board_out spelled law job tiles image plan q b = record {
   plan = b.cuts;
   runs = in_text spelled job.pitch tiles plan.program q (InTiles (map (shift_in job.pitch) tiles) (Outlines job b.cuts.loops (plan.bridges).items b.cuts.walks plan.program)) b.tiled
       (cuts_in law job tiles image plan q b);
 }
 
-pub leaves_bridges : SpellingLaw → TiledOutlineLaw → (job : Job) (tiles : List Tile) (image : List Painted) (plan : OutlineCut) (q : Program) → IsBoardIn job tiles image plan q
-    → LeavesBridges (cut_board job tiles image plan (text_of (lines_of q)))
+pub leaves_bridges : SpellingOverLaw → TiledOutlineLaw → (job : Job) (tiles : List Tile) (image : List Painted) (plan : OutlineCut) (q : Program) → IsBoardIn job tiles image plan q
+    → LeavesBridges (cut_board job tiles image plan q)
 leaves_bridges spelled law job tiles image plan q b =
     let shifts = map (shift_in job.pitch) tiles in
     let whole : List Move → Type 0 = Outlines job b.cuts.loops (plan.bridges).items b.cuts.walks plan.program in

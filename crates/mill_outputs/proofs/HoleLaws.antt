@@ -10,10 +10,8 @@ use Rattle.drill_plan.specs.Laws.{LimitsLaw}
 use Rattle.drill_program.specs.Program.{program_of}
 use Rattle.drill_program.specs.Tiled.{AreDrilledIn, TiledHolesLaw}
 use Rattle.drill_program.proofs.ProgramLaws.{program_in, program_runs}
-use Rattle.rs274_sim.specs.Spelling.{text_of}
-use Rattle.ngc_writer.specs.Spelled.{SpellingLaw}
 use Rattle.mill_program.specs.declared.cuts.Program.{Program}
-use Rattle.mill_program.specs.Lines.{lines_of}
+use Rattle.grid_writer.specs.Laws.{SpellingOverLaw}
 use Rattle.tiling.specs.Copies.{Tile, shift_in}
 use Rattle.job_file.specs.declared.job.Job.{Job}
 use Rattle.job_file.specs.Ranges.{IsInRanges}
@@ -46,14 +44,14 @@ planned_within few limits x plans ok stands planned = drill_within few limits x.
 
 -- the laws of drill lists and of the runs of their programs
 pub record HoleLaws : Type 0 where
-  pub spelled : SpellingLaw
+  pub spelled : SpellingOverLaw
   pub few : FewDiametersLaw
   pub limits : LimitsLaw
   pub holes : TiledHolesLaw
 
 -- what the run of the lines drills in tiles, the run of their text does
 pub drills_holes : TilingLaws → HoleLaws → (job : Job) → IsJobOfHoles job → (by : Tile) (file : DrillFile) (plan : List ToolPlan) (q : Program) → IsDrillPlan file job.drills_available plan → IsWithinLimits plan
-    → in_tiles job (shift_in job.pitch by) (program_of job plan) ≡ Ok q → DrillsHoles (drilling job (tiles_by job by) file plan (text_of (lines_of q)))
+    → in_tiles job (shift_in job.pitch by) (program_of job plan) ≡ Ok q → DrillsHoles (drilling job (tiles_by job by) file plan q)
 drills_holes tiling laws job ok by file plan q drills within e =
     let shifts = map (shift_in job.pitch) (tiles_by job by) in
     let tiled = made_tiled tiling job by (program_of job plan) q (program_in job ok.ranges plan within) (program_runs job ok.ranges plan ok.change) e in

@@ -3,6 +3,7 @@ pub mod PlanLaws
 pub mod TextLaws
 pub mod NarrowLaws
 pub mod TileLaws
+pub mod GridLaws
 pub mod AcceptedLaws
 pub mod MadeLaws
 pub mod MillLaws

@@ -16,6 +16,7 @@ use Rattle.tiling.specs.Tiles.{tiled, shifts_of, first_past, refused_or, tile_of
 use Rattle.tile_steps.specs.Steps.{step_of}
 use Rattle.job_file.specs.declared.job.Job.{Job}
 use Rattle.mill_plan.specs.declared.isolation.Isolation.{Isolation}
+use Rattle.mill_plan.specs.declared.limits.LimitHit.{LimitHit}
 use Rattle.mill_plan.specs.declared.limits.LimitHit.TheVariants as hits
 use Rattle.mill_plan.specs.Job.{IsSideJob}
 use Rattle.outline_plan.specs.declared.plan.OutlineCut.{OutlineCut}
@@ -28,8 +29,9 @@ use Rattle.mill_inputs.specs.Accepted.{Accepts}
 use Rattle.mill_inputs.proofs.ContentLaws.{ok_is}
 use Rattle.mill_outputs.specs.declared.plans.Plans.{Plans}
 use Rattle.mill_outputs.specs.Planned.{ArePlanned, IsOneRefusal}
-use Rattle.mill_outputs.specs.Written.{front_step, back_step, or_refused, in_tiles, in_tiles_if, Plain, plain_of, all_in_tiles, OneOfEach, Made, AreMade}
+use Rattle.mill_outputs.specs.Written.{front_step, back_step, front_grid, levelled_if, or_refused, in_tiles, in_tiles_if, Plain, plain_of, all_in_tiles, OneOfEach, Made, AreMade}
 use Rattle.mill_outputs.proofs.PlanLaws.{IsPlanRefusal, Drills, CutsAlong, Isolates, err_as, err_not_ok, ok_not_err, or_memory, then_first, planned_isolate, planned_drill, planned_outline, planned_apart, planned_refusal}
+use Rattle.mill_outputs.proofs.GridLaws.{grid_refusal}
 use Rattle.mill_outputs.proofs.AcceptedLaws.{IsAccepted, side_job, outline_job}
 
 -- ---- the plain programs are one
@@ -69,6 +71,7 @@ outlines_same law job (Some image) (Some one) (Some other) ok h k =
 assembled : Job → Option Frame → Option Frame → Option Frame → Option (List ToolPlan) → Option Program → Option Program → Option Program → Plain
 assembled job front back outline drill its_front its_back its_outline = record {
   step = step_of job.pitch (record { front = front; back = back; outline = outline }) drill;
+  frame = front;
   front = its_front;
   back = its_back;
   drill = option_map (program_of job) drill;
@@ -103,18 +106,18 @@ answers_same law x ok one other p q = ap (all_in_tiles x.job) (plain_same law x 
 
 -- ---- refusals of tiles
 
--- a tile past the range
-abbrev IsTileRefusal : Status → Type 0
-IsTileRefusal status = (x y : ℤ) × (status ≡ Limit (hits.Tile x y))
+-- a limit is passed
+abbrev IsLimitRefusal : Status → Type 0
+IsLimitRefusal status = (hit : LimitHit) × (status ≡ Limit hit)
 
-refused_past : (past : Option Corner) (q : Program) (status : Status) → or_refused (refused_or past q) ≡ Err status → IsTileRefusal status
+refused_past : (past : Option Corner) (q : Program) (status : Status) → or_refused (refused_or past q) ≡ Err status → IsLimitRefusal status
 refused_past None q status e = absurd (ok_not_err q status e)
-refused_past (Some c) q status e = (c.x, c.y, sym (same (Limit (hits.Tile c.x c.y)) status e))
+refused_past (Some c) q status e = (hits.Tile c.x c.y, sym (same (Limit (hits.Tile c.x c.y)) status e))
   where
     same : (s t : Status) → ◌≡◌ {A = Result Program Status} (Err s) (Err t) → s ≡ t
     same s t e = cc
 
-tile_refusal : (job : Job) (by : Point) (p : Program) (status : Status) → in_tiles job by p ≡ Err status → IsTileRefusal status
+tile_refusal : (job : Job) (by : Point) (p : Program) (status : Status) → in_tiles job by p ≡ Err status → IsLimitRefusal status
 unfolding in_tiles tile_of
 tile_refusal job by p status e = refused_past (first_past (tiled (shifts_of job.tile_x job.tile_y by) p).runs) (tiled (shifts_of job.tile_x job.tile_y by) p) status e
 
@@ -126,19 +129,20 @@ not_made {B = B} P (Err s) f status first next e = subst P (same s status e) (fi
     same : (s t : Status) → ◌≡◌ {A = Result B Status} (Err s) (Err t) → s ≡ t
     same s t e = cc
 
-one_refusal : (job : Job) (by : Point) (p : Option Program) (status : Status) → in_tiles_if job by p ≡ Err status → IsTileRefusal status
+one_refusal : (job : Job) (by : Point) (p : Option Program) (status : Status) → in_tiles_if job by p ≡ Err status → IsLimitRefusal status
 one_refusal job by None status e = absurd (ok_not_err None status e)
 one_refusal job by (Some p) status e =
-    not_made IsTileRefusal (in_tiles job by p) (λ q. Ok (Some q)) status (tile_refusal job by p) (λ q more. absurd (ok_not_err (Some q) status more)) e
+    not_made IsLimitRefusal (in_tiles job by p) (λ q. Ok (Some q)) status (tile_refusal job by p) (λ q more. absurd (ok_not_err (Some q) status more)) e
 
-programs_refusal : (job : Job) (plain : Plain) (status : Status) → all_in_tiles job plain ≡ Err status → IsTileRefusal status
+programs_refusal : (job : Job) (plain : Plain) (status : Status) → all_in_tiles job plain ≡ Err status → IsLimitRefusal status
 unfolding all_in_tiles
 programs_refusal job plain status e =
-    not_made IsTileRefusal (in_tiles_if job (front_step job plain.step) plain.front) _ status (one_refusal job (front_step job plain.step) plain.front) (λ front behind.
-    not_made IsTileRefusal (in_tiles_if job (back_step job plain.step) plain.back) _ status (one_refusal job (back_step job plain.step) plain.back) (λ back behind.
-    not_made IsTileRefusal (in_tiles_if job (front_step job plain.step) plain.drill) _ status (one_refusal job (front_step job plain.step) plain.drill) (λ drill behind.
-    not_made IsTileRefusal (in_tiles_if job (front_step job plain.step) plain.outline) _ status (one_refusal job (front_step job plain.step) plain.outline) (λ outline behind.
-    absurd (ok_not_err _ status behind)) behind) behind) behind) e
+    not_made IsLimitRefusal (front_grid job plain.frame) _ status (grid_refusal job plain.frame) (λ grid behind.
+    not_made IsLimitRefusal (in_tiles_if job (front_step job plain.step) (option_map (levelled_if grid job.pitch) plain.front)) _ status (one_refusal job (front_step job plain.step) (option_map (levelled_if grid job.pitch) plain.front)) (λ front behind.
+    not_made IsLimitRefusal (in_tiles_if job (back_step job plain.step) plain.back) _ status (one_refusal job (back_step job plain.step) plain.back) (λ back behind.
+    not_made IsLimitRefusal (in_tiles_if job (front_step job plain.step) plain.drill) _ status (one_refusal job (front_step job plain.step) plain.drill) (λ drill behind.
+    not_made IsLimitRefusal (in_tiles_if job (front_step job plain.step) plain.outline) _ status (one_refusal job (front_step job plain.step) plain.outline) (λ outline behind.
+    absurd (ok_not_err _ status behind)) behind) behind) behind) behind) e
 
 -- ---- what is made
 
@@ -189,7 +193,7 @@ made_refusal x status n = by_case (refused_as x status n)
   where
     by_case : IsRefusedAs x status → IsPlanRefusal status
     by_case (inl plans) = planned_refusal x status plans
-    by_case (inr (plans, planned, tiles)) = let r = programs_refusal x.job (plain_of x.job plans) status tiles in inl (hits.Tile r.0 r.1, r.2)
+    by_case (inr (plans, planned, tiles)) = inl (programs_refusal x.job (plain_of x.job plans) status tiles)
 
 -- ---- one refusal
 

@@ -1,6 +1,6 @@
 -- What the making of files asks of plans and of programs.
-use Rattle.std.proofs.Common.{◌≡◌, List, Option, Some, None, Result, Ok, sym, subst}
-use Rattle.std.specs.Prelude.{IfSome}
+use Rattle.std.proofs.Common.{◌≡◌, ◌⊎◌, inl, inr, true, List, Option, Some, None, Result, Ok, refl, sym, subst}
+use Rattle.std.specs.Prelude.{is_some, IfSome}
 use Rattle.std.specs.Option.{option_map}
 use Rattle.board_base.specs.Lattice.{IsPitch}
 use Rattle.shape_parts.specs.declared.shape.Painted.{Painted}
@@ -9,7 +9,10 @@ use Rattle.drill_plan.specs.Limits.{IsWithinLimits}
 use Rattle.drill_program.specs.Program.{program_of}
 use Rattle.drill_program.proofs.ProgramLaws.{program_in, program_runs}
 use Rattle.mill_program.specs.declared.cuts.Program.{Program}
+use Rattle.mill_program.specs.declared.probes.ProbeGrid.{ProbeGrid}
 use Rattle.mill_program.specs.Conditions.{IsProgram, IsRunnable}
+use Rattle.levelling.specs.Pieces.{IsLatticeProgram, levelled}
+use Rattle.grid_writer.specs.Conditions.{IsWritable}
 use Rattle.tiling.specs.Copies.{Tile, shift_in}
 use Rattle.tile_steps.specs.Steps.{IsNarrow, AreNarrow}
 use Rattle.job_file.specs.declared.job.Job.{Job}
@@ -17,6 +20,10 @@ use Rattle.job_file.specs.Ranges.{IsInRanges}
 use Rattle.mill_plan.specs.declared.isolation.Isolation.{Isolation}
 use Rattle.mill_plan.specs.Cutting.{side_cutting}
 use Rattle.job_file.proofs.RangeLaws.{is_pitch}
+use Rattle.mill_plan.specs.Job.{IsSideJob}
+use Rattle.side_levels.specs.Lattices.{LatticeLaw}
+use Rattle.side_levels.specs.Probed.{MayBeProbed, ProbedLaw}
+use Rattle.side_surfaces.specs.Levelled.{LevelledSidesLaw}
 use Rattle.outline_plan.specs.declared.plan.OutlineCut.{OutlineCut}
 use Rattle.outline_plan.specs.Job.{outline_cutting}
 use Rattle.outline_plan.specs.CutOut.{board_of}
@@ -25,12 +32,15 @@ use Rattle.mill_inputs.specs.Accepted.{Accepts}
 use Rattle.mill_outputs.specs.declared.plans.Plans.{Plans}
 use Rattle.mill_outputs.specs.declared.plans.Programs.{Programs}
 use Rattle.mill_outputs.specs.Planned.{ArePlanned}
-use Rattle.mill_outputs.specs.Written.{frames_of, step_by, seen_in_front, seen_behind, HasTiles, in_tiles, in_tiles_if, plain_of, all_in_tiles, AreValid}
+use Rattle.mill_outputs.specs.Written.{frames_of, step_by, tiles_by, seen_in_front, seen_behind, HasTiles, front_grid, levelled_if, in_tiles, in_tiles_if, plain_of, all_in_tiles, AreValid}
 use Rattle.mill_outputs.proofs.PlanLaws.{Isolates, CutsAlong, planned_isolate, planned_outline}
-use Rattle.mill_outputs.proofs.AcceptedLaws.{IsAccepted}
+use Rattle.mill_outputs.proofs.AcceptedLaws.{IsAccepted, side_job}
 use Rattle.mill_outputs.proofs.NarrowLaws.{frame_narrow}
-use Rattle.mill_outputs.proofs.TileLaws.{TilingLaws, made_tiled, each_tiled}
-use Rattle.mill_outputs.proofs.HeadlineLaws.{some_tiled}
+use Rattle.mill_outputs.proofs.TextLaws.{plain_written, levelled_written}
+use Rattle.mill_outputs.proofs.TileLaws.{TilingLaws, IsTiled, made_tiled, each_tiled}
+use Rattle.mill_outputs.proofs.GridLaws.{probed_is}
+use Rattle.mill_outputs.proofs.SideLaws.{IsOverGrid}
+use Rattle.mill_outputs.proofs.HeadlineLaws.{some_tiled, front_made}
 
 -- ---- the job
 
@@ -63,11 +73,30 @@ plans_narrow x plans pitch planned =
       outline = outline_narrow x.job x.outline plans.outline pitch (planned_outline x plans planned);
     }
 
+-- ---- probes
+
+-- the front's frame may be probed, and its program levelled
+pub front_probed : ProbedLaw → (x : Accepts) → IsAccepted x → (plans : Plans) → ArePlanned x (Ok plans) → IfSome plans.front (λ (p : Isolation). MayBeProbed x.job p.frame)
+front_probed law x ok plans planned = by x.front plans.front (side_job x ok).0 (planned_isolate x plans planned).0
+  where
+    by : (image : Option (List Painted)) (plan : Option Isolation) → (is_some image ≡ true → IsSideJob x.job) → Isolates x.job image plan → IfSome plan (λ (p : Isolation). MayBeProbed x.job p.frame)
+    by image None side h = tt
+    by None (Some plan) side h = absurd h
+    by (Some image) (Some plan) side h = law.frame x.job image plan (side refl) h
+
+pub front_lattice : LatticeLaw → (x : Accepts) → IsAccepted x → (plans : Plans) → ArePlanned x (Ok plans) → IfSome plans.front (λ (p : Isolation). IsLatticeProgram x.job.pitch p.program)
+front_lattice law x ok plans planned = by x.front plans.front (side_job x ok).0 (planned_isolate x plans planned).0
+  where
+    by : (image : Option (List Painted)) (plan : Option Isolation) → (is_some image ≡ true → IsSideJob x.job) → Isolates x.job image plan → IfSome plan (λ (p : Isolation). IsLatticeProgram x.job.pitch p.program)
+    by image None side h = tt
+    by None (Some plan) side h = absurd h
+    by (Some image) (Some plan) side h = (law x.job image plan (side refl) h).0
+
 -- ---- programs
 
 -- a program in tiles can be written, where the plain one can be and can run
 one_valid : {B : Type 0} → TilingLaws → (job : Job) (by : Tile) (plain : B → Program) (plan : Option B) (program : Option Program) → IfSome plan (λ p. IsProgram (plain p) × IsRunnable (plain p))
-    → in_tiles_if job (shift_in job.pitch by) (option_map plain plan) ≡ Ok program → IfSome program IsProgram
+    → in_tiles_if job (shift_in job.pitch by) (option_map plain plan) ≡ Ok program → IfSome program IsWritable
 one_valid laws job by plain plan None ready e = tt
 one_valid laws job by plain None (Some q) ready e = absurd (none q e)
   where
@@ -75,7 +104,26 @@ one_valid laws job by plain None (Some q) ready e = absurd (none q e)
     none q e = cc
 one_valid laws job by plain (Some p) (Some q) ready e =
     let tiled = made_tiled laws job by (plain p) q ready.0 ready.1 (some_tiled (in_tiles job (shift_in job.pitch by) (plain p)) q e) in
-    subst IsProgram (sym tiled.is) tiled.valid
+    plain_written q (subst IsProgram (sym tiled.is) tiled.valid)
+
+-- so can the front's, over its grid, if any
+front_valid : TilingLaws → LevelledSidesLaw → (x : Accepts) → IsAccepted x → (by : Tile) (image : Option (List Painted)) (plan : Option Isolation) (program : Option Program) (grid : Option ProbeGrid)
+    → (is_some image ≡ true → IsSideJob x.job) → Isolates x.job image plan → front_grid x.job (option_map (λ (p : Isolation). p.frame) plan) ≡ Ok grid
+    → in_tiles_if x.job (shift_in x.job.pitch by) (option_map (levelled_if grid x.job.pitch) (option_map (λ (p : Isolation). p.program) plan)) ≡ Ok program → IfSome program IsWritable
+front_valid laws levels x ok by image plan None grid side h is e = tt
+front_valid laws levels x ok by image None (Some q) grid side h is e = absurd (none q e)
+  where
+    none : (q : Program) → ◌≡◌ {A = Result (Option Program) Status} (Ok None) (Ok (Some q)) → ⊥
+    none q e = cc
+front_valid laws levels x ok by None (Some plan) (Some q) grid side h is e = absurd h
+front_valid laws levels x ok by (Some image) (Some plan) (Some q) grid side h is e =
+    written (front_made laws x.job by image plan q grid ok.ranges ok.together h (probed_is x.job plan.frame grid is) (some_tiled (in_tiles x.job (shift_in x.job.pitch by) (levelled_if grid x.job.pitch plan.program)) q e))
+  where
+    written : IsTiled x.job.pitch (tiles_by x.job by) plan.program q ⊎ IsOverGrid x.job (tiles_by x.job by) plan q → IsWritable q
+    written (inl t) = plain_written q (subst IsProgram (sym t.is) t.valid)
+    written (inr o) =
+        let l = levels.side x.job image plan o.grid (side refl) h o.asked o.over in
+        subst IsWritable (sym o.is) (levelled_written o.grid (levelled o.grid x.job.pitch plan.program) l.program (record { is_grid = l.program.is_grid; x0 = l.first_x; y0 = l.first_y }))
 
 side_ready : (job : Job) (image : Option (List Painted)) (plan : Option Isolation) → Isolates job image plan → IfSome plan (λ (p : Isolation). IsProgram p.program × IsRunnable p.program)
 side_ready job image None h = tt
@@ -91,15 +139,15 @@ holes_ready : (x : Accepts) → IsAccepted x → (plan : Option (List ToolPlan))
 holes_ready x ok None within = tt
 holes_ready x ok (Some plan) within = (program_in x.job ok.ranges plan within, program_runs x.job ok.ranges plan ok.together.change)
 
-pub programs_valid : TilingLaws → (x : Accepts) → IsAccepted x → (plans : Plans) (programs : Programs) → ArePlanned x (Ok plans) → IfSome plans.drill IsWithinLimits
+pub programs_valid : TilingLaws → LevelledSidesLaw → (x : Accepts) → IsAccepted x → (plans : Plans) (programs : Programs) → ArePlanned x (Ok plans) → IfSome plans.drill IsWithinLimits
     → all_in_tiles x.job (plain_of x.job plans) ≡ Ok programs → AreValid programs
-programs_valid laws x ok plans programs planned within e =
+programs_valid laws levels x ok plans programs planned within e =
     let job = x.job in
     let isolate = planned_isolate x plans planned in
     let each = each_tiled job (plain_of job plans) programs e in
     let front = seen_in_front (step_by job plans) in
     record {
-      front = one_valid laws job front (λ (p : Isolation). p.program) plans.front programs.front (side_ready job x.front plans.front isolate.0) each.front;
+      front = front_valid laws levels x ok front x.front plans.front programs.front each.grid (side_job x ok).0 isolate.0 each.probed each.front;
       back = one_valid laws job (seen_behind (step_by job plans)) (λ (p : Isolation). p.program) plans.back programs.back (side_ready job x.back plans.back isolate.1) each.back;
       drill = one_valid laws job front (program_of job) plans.drill programs.drill (holes_ready x ok plans.drill within) each.drill;
       outline = one_valid laws job front (λ (p : OutlineCut). p.program) plans.outline programs.outline (outline_ready job x.outline plans.outline (planned_outline x plans planned)) each.outline;

@@ -1,5 +1,5 @@
 -- What Done means after `mill`, in plain steps, for the files that it wrote.
-use Rattle.std.specs.Prelude.{◌≡◌, ℕ, ◌*ℤ◌, true, List, [], ◌∷◌, ◌++◌, map, length, Option, Some, Ok}
+use Rattle.std.specs.Prelude.{◌≡◌, ℕ, ℤ, ◌*ℤ◌, true, List, [], ◌∷◌, ◌++◌, map, length, Option, Some, None, Ok, IfSome, MatchBool}
 use Rattle.std.specs.List.{All, Contains}
 use Rattle.std.specs.FinMap.{get}
 use Rattle.board_base.specs.Files.{Files}
@@ -10,9 +10,8 @@ use Rattle.cell_sets.specs.Islands.{AreIslands}
 use Rattle.shape_parts.specs.declared.shape.Painted.{Painted}
 use Rattle.rs274_sim.specs.Cutter.{NoBite, nanometre}
 use Rattle.rs274_sim.specs.Runs.{Runs}
-use Rattle.rs274_sim.specs.Spelling.{text_of}
 use Rattle.mill_program.specs.declared.cuts.Program.{Program}
-use Rattle.mill_program.specs.Lines.{lines_of}
+use Rattle.mill_program.specs.declared.probes.ProbeGrid.{ProbeGrid}
 use Rattle.mill_program.specs.Strokes.{CutsExactly}
 use Rattle.excellon.specs.declared.file.DrillFile.{DrillFile}
 use Rattle.drill_plan.specs.declared.plans.ToolPlan.{ToolPlan}
@@ -31,12 +30,15 @@ use Rattle.outline_plan.specs.CutOut.{Outlines, CutsOut}
 use Rattle.endings.specs.Outputs.{Output, all_stored}
 use Rattle.endings.specs.Reads.{held_in}
 use Rattle.mill_inputs.specs.Accepted.{Accepts, accepted}
-use Rattle.side_runs.specs.Sides.{AreApart, NoBiteIn, PassesIn, PartsTiles}
-use Rattle.side_runs.specs.SideStrokes.{wants_along}
+use Rattle.side_runs.specs.Sides.{AreApart, NoBiteIn}
+use Rattle.side_levels.specs.Probed.{IsGridOver}
+use Rattle.side_surfaces.specs.Runs.{RunsOver}
+use Rattle.side_surfaces.specs.Sides.{IsDeepBy, PassesBy, PartsBy}
+use Rattle.side_surfaces.specs.Strokes.{wants_by}
 use Rattle.tiling.specs.Copies.{Tile, shift_in}
 use Rattle.tiling.specs.Stretches.{InTiles}
 use Rattle.mill_outputs.specs.Written.{step_by, seen_in_front, seen_behind, tiles_by, Made, AreMade}
-use Rattle.mill_outputs.specs.Mill.{Milled, files_of}
+use Rattle.mill_outputs.specs.Mill.{program_text, Milled, files_of}
 
 -- ---- what was written
 
@@ -54,8 +56,8 @@ pub record Wrote (P : Milled → Type 0) (words : List (List ℕ)) (before : Fil
   pub holds : P (record { accepts = accepts; made = made })
 
 -- what is made of an input, its plan and its program, where they are there
-abbrev pub made_if : {A B C : Type 0} → (A → B → List ℕ → C) → Option A → Option B → Option Program → List C
-made_if make (Some given) (Some plan) (Some program) = make given plan (text_of (lines_of program)) ∷ []
+abbrev pub made_if : {A B C : Type 0} → (A → B → Program → C) → Option A → Option B → Option Program → List C
+made_if make (Some given) (Some plan) (Some program) = make given plan program ∷ []
 made_if make given plan program = []
 
 -- the tiles of what is seen from the front, and of what is seen from the back
@@ -67,48 +69,71 @@ back_tiles m = tiles_by m.accepts.job (seen_behind (step_by m.accepts.job m.made
 
 -- ---- the sides
 
--- a side that was milled: its tiles, its image as it is milled, its plan, and the bytes of its program
+-- a side that was milled: its tiles, its image as it is milled, its plan, the grid of its probes, if any, and the bytes of its
+-- program
 pub record Side : Type 0 where
   pub job : Job
   pub tiles : List Tile
   pub image : List Painted
   pub plan : Isolation
+  pub grid : Option ProbeGrid
   pub program : List ℕ
 
-abbrev pub milled_side : Job → List Tile → List Painted → Isolation → List ℕ → Side
-milled_side job tiles image plan program = record { job = job; tiles = tiles; image = image; plan = plan; program = program }
+abbrev pub milled_side : Job → List Tile → List Painted → Isolation → Program → Side
+milled_side job tiles image plan program = record { job = job; tiles = tiles; image = image; plan = plan; grid = program.grid; program = program_text program }
 
--- the front and the back, as far as they were milled
+-- the front, where it was milled
+abbrev pub front_of : Milled → List Side
+front_of m = made_if (milled_side m.accepts.job (front_tiles m)) m.accepts.front m.made.plans.front m.made.programs.front
+
+-- the back, where it was milled
+abbrev pub back_of : Milled → List Side
+back_of m = made_if (milled_side m.accepts.job (back_tiles m)) m.accepts.back m.made.plans.back m.made.programs.back
+
+-- both, as far as they were milled
 abbrev pub sides_of : Milled → List Side
-sides_of m =
-    made_if (milled_side m.accepts.job (front_tiles m)) m.accepts.front m.made.plans.front m.made.programs.front
-    ++ made_if (milled_side m.accepts.job (back_tiles m)) m.accepts.back m.made.plans.back m.made.programs.back
+sides_of m = front_of m ++ back_of m
 
 -- each side that was milled
 abbrev pub OfSides : (Side → Type 0) → Milled → Type 0
 OfSides P m = All P (sides_of m)
 
+-- the grid of the front's probes is that of the job over its frame, exactly where the job levels the front
+abbrev pub IsProbed : Side → Type 0
+IsProbed side = MatchBool side.job.al_front ((g : ProbeGrid) × IsGridOver side.job side.plan.frame g × (side.grid ≡ Some g)) (side.grid ≡ None)
+
+-- no other program is levelled
+pub record LevelsFront (m : Milled) : Type 0 where
+  pub front : All IsProbed (front_of m)
+  pub back : All (λ side. side.grid ≡ None) (back_of m)
+  pub drill : IfSome m.made.programs.drill (λ program. program.grid ≡ None)
+  pub outline : IfSome m.made.programs.outline (λ program. program.grid ≡ None)
+
 -- ---- what holds of each
 
--- the program is the text of the lines of a program with the job's heights, speeds, feeds and tool number
+-- the program is the text of the lines of a program with the job's heights, speeds, feeds and tool number, over the side's grid
 abbrev pub IsTextOf : Side → Type 0
-IsTextOf side = (program : Program) × IsProgramOf side.job program × (side.program ≡ text_of (lines_of program))
+IsTextOf side = (program : Program) × IsProgramOf side.job program × (program.grid ≡ side.grid) × (side.program ≡ program_text program)
+
+-- the program's run, over each surface that its probes may find, has P of their answers
+abbrev pub RunsOn : Side → (List ℤ → List Move → Type 0) → Type 0
+RunsOn side P = RunsOver side.grid side.program P
 
 -- the program's run never brings the turning cutter within its radius less the tolerance of a dark point's copy in any tile
 abbrev pub NeverBites : Side → Type 0
-NeverBites side = Runs side.program (NoBiteIn side.job side.image side.tiles)
+NeverBites side = RunsOn side (λ answers. NoBiteIn side.job side.image side.tiles)
 
--- the program's run passes the copies of the visited cells in each tile, and no others
+-- the program's run passes the copies of the visited cells in each tile at its depth over the surface, and no others
 abbrev pub PassesVisited : Side → Type 0
-PassesVisited side = Runs side.program (PassesIn side.job side.image side.tiles)
+PassesVisited side = RunsOn side (PassesBy side.job side.image side.tiles side.grid)
 
 -- The strokes of the program's run are, tile after tile, the walks of each pass and then the clearing runs, in their order,
--- and nothing else is low; the report's count is that of the walks.
+-- each corner at exactly its depth over the surface, and nothing else is low; the report's count is that of the walks.
 pub record FollowsWalks (side : Side) : Type 0 where
   pub passes : List (List (List Cell))
   pub runs : List (List Cell)
   pub along : AreSideWalks (side_cutting side.job) side.image passes runs
-  pub strokes : Runs side.program (CutsExactly side.job.zsafe (wants_along side.job side.tiles (all_of passes ++ runs)))
+  pub strokes : RunsOn side (λ answers. CutsExactly side.job.zsafe (wants_by side.job side.grid answers side.tiles (all_of passes ++ runs)))
   pub chains : length (all_of passes) ≡ side.plan.chains
 
 -- where rows are cleared, the visited cells sweep each cell of their box that milling every allowed cell sweeps
@@ -132,7 +157,7 @@ pub record Separates (side : Side) : Type 0 where
   -- the copies of the frame in different tiles have no cell in common,
   pub apart : AreApart side.plan.frame side.tiles
   -- and islands' copies that cells not wholly swept by this program's run join are in one tile, and stand in one group.
-  pub parts : Runs side.program (PartsTiles (side_cutting side.job) side.job.zwork number side.plan.groups.items side.tiles)
+  pub parts : RunsOn side (λ answers. PartsBy (side_cutting side.job) (IsDeepBy side.job side.grid answers) number side.plan.groups.items side.tiles)
 
 -- ---- the holes
 
@@ -144,8 +169,8 @@ pub record Drilling : Type 0 where
   pub plan : List ToolPlan
   pub program : List ℕ
 
-abbrev pub drilling : Job → List Tile → DrillFile → List ToolPlan → List ℕ → Drilling
-drilling job tiles file plan program = record { job = job; tiles = tiles; file = file; plan = plan; program = program }
+abbrev pub drilling : Job → List Tile → DrillFile → List ToolPlan → Program → Drilling
+drilling job tiles file plan program = record { job = job; tiles = tiles; file = file; plan = plan; program = program_text program }
 
 -- the same, as far as the job names a drill file
 abbrev pub OfHoles : (Drilling → Type 0) → Milled → Type 0
@@ -166,8 +191,8 @@ pub record CutBoard : Type 0 where
   pub plan : OutlineCut
   pub program : List ℕ
 
-abbrev pub cut_board : Job → List Tile → List Painted → OutlineCut → List ℕ → CutBoard
-cut_board job tiles image plan program = record { job = job; tiles = tiles; image = image; plan = plan; program = program }
+abbrev pub cut_board : Job → List Tile → List Painted → OutlineCut → Program → CutBoard
+cut_board job tiles image plan program = record { job = job; tiles = tiles; image = image; plan = plan; program = program_text program }
 
 -- the same, as far as the job names an outline
 abbrev pub OfOutline : (CutBoard → Type 0) → Milled → Type 0

@@ -2,9 +2,9 @@
 use Rattle.std.specs.Prelude.{◌≡◌, ℕ, List, [], ◌∷◌, ◌++◌, Option, Some, None, Result, Ok, Err, codes}
 use Rattle.board_base.specs.declared.places.Role.{Role}
 use Rattle.board_base.specs.declared.places.Role.TheVariants as roles
-use Rattle.rs274_sim.specs.Spelling.{text_of}
 use Rattle.mill_program.specs.declared.cuts.Program.{Program}
-use Rattle.mill_program.specs.Lines.{lines_of}
+use Rattle.mill_program.specs.GridLines.{lines_over}
+use Rattle.grid_writer.specs.Spelling.{text_over}
 use Rattle.job_file.specs.declared.job.Job.{Job}
 use Rattle.endings.specs.declared.status.Status.{Status}
 use Rattle.endings.specs.declared.status.Status.TheVariants.{Done}
@@ -29,9 +29,13 @@ abbrev pub file_if : {A : Type 0} → Role → List ℕ → (A → List ℕ) →
 file_if role name bytes None = []
 file_if role name bytes (Some plan) = record { role = role; name = name; bytes = bytes plan } ∷ []
 
--- the text of a program
+-- the text of a program, over its grid of probes, if any
+abbrev pub program_text : Program → List ℕ
+program_text program = text_over (lines_over program)
+
+-- the file of a program
 abbrev pub program_file : Option (List ℕ) → Role → List ℕ → Option Program → List Output
-program_file base role name program = file_if role (named base name) (λ program. text_of (lines_of program)) program
+program_file base role name program = file_if role (named base name) program_text program
 
 -- the report
 abbrev pub report_file : Option (List ℕ) → Plans → Output

@@ -1,12 +1,18 @@
--- The programs as they are written: each in the tiles of the job.
-use Rattle.std.specs.Prelude.{◌≤◌, pos, neg_ℤ, List, Option, Some, None, Result, Ok, Err, IfSome}
+-- The programs as they are written: the front's over the surface that is probed, and each in the tiles of the job.
+use Rattle.std.specs.Prelude.{◌≤◌, ℤ, pos, neg_ℤ, if◌then◌else◌, List, Option, Some, None, Result, Ok, Err, IfSome}
 use Rattle.std.specs.Option.{option_map}
 use Rattle.board_base.specs.declared.places.Point.{Point}
 use Rattle.board_base.specs.Binds.{◌>>=◌}
+use Rattle.cell_grid.specs.declared.frames.Frame.{Frame}
 use Rattle.drill_plan.specs.Laws.{OnePlan}
 use Rattle.drill_program.specs.Program.{program_of}
 use Rattle.mill_program.specs.declared.cuts.Program.{Program}
+use Rattle.mill_program.specs.declared.probes.ProbeGrid.{ProbeGrid}
 use Rattle.mill_program.specs.Conditions.{IsProgram, IsRunnable}
+use Rattle.levelling.specs.declared.grids.TooManyProbes.{TooManyProbes}
+use Rattle.levelling.specs.Grids.{grid_of}
+use Rattle.levelling.specs.Pieces.{levelled}
+use Rattle.grid_writer.specs.Conditions.{IsWritable}
 use Rattle.tiling.specs.declared.TileError.{TileError}
 use Rattle.tiling.specs.declared.TileError.TheVariants as refusals
 use Rattle.tiling.specs.Tiles.{tile_of}
@@ -58,6 +64,23 @@ pub record HasTiles (job : Job) : Type 0 where
   pub across : (1 ≤ job.tile_x) × (job.tile_x ≤ 20)
   pub up : (1 ≤ job.tile_y) × (job.tile_y ≤ 20)
 
+-- ---- the surface
+
+-- a grid, or the limit that its count of probes passes
+abbrev pub grid_or_limit : Result ProbeGrid TooManyProbes → Result (Option ProbeGrid) Status
+grid_or_limit (Ok g) = Ok (Some g)
+grid_or_limit (Err many) = Err (Limit (hits.Probes many.count))
+
+-- the grid over the frame of the front, where there is a front and the job levels it
+unfoldable pub front_grid : Job → Option Frame → Result (Option ProbeGrid) Status
+front_grid job None = Ok None
+front_grid job (Some f) = if job.al_front then grid_or_limit (grid_of f job.al_x job.al_y job.al_range job.al_probefeed) else Ok None
+
+-- the program over a grid, or as it stands where there is none
+abbrev pub levelled_if : Option ProbeGrid → ℤ → Program → Program
+levelled_if None pitch p = p
+levelled_if (Some g) pitch p = levelled g pitch p
+
 -- ---- programs
 
 -- what a refusal of tiles is to the command
@@ -86,9 +109,10 @@ front_step job step = shift_in job.pitch (seen_in_front step)
 abbrev pub back_step : Job → TileStep → Point
 back_step job step = shift_in job.pitch (seen_behind step)
 
--- what is put into tiles: the step, and the plain programs, as far as they are there
+-- what is levelled and put into tiles: the step, the frame of the front, and the plain programs, as far as they are there
 pub record Plain : Type 0 where
   pub step : TileStep
+  pub frame : Option Frame
   pub front : Option Program
   pub back : Option Program
   pub drill : Option Program
@@ -98,16 +122,19 @@ pub record Plain : Type 0 where
 abbrev pub plain_of : Job → Plans → Plain
 plain_of job plans = record {
   step = step_by job plans;
+  frame = option_map (λ (p : Isolation). p.frame) plans.front;
   front = option_map (λ (p : Isolation). p.program) plans.front;
   back = option_map (λ (p : Isolation). p.program) plans.back;
   drill = option_map (program_of job) plans.drill;
   outline = option_map (λ (p : OutlineCut). p.program) plans.outline;
 }
 
--- all of them in tiles, or the first refusal: of the front, of the back, of the holes, of the outline
+-- all of them in tiles, the front's over its grid, or the first refusal: of the probes, and then of the tiles of the front, of
+-- the back, of the holes, of the outline
 unfoldable pub all_in_tiles : Job → Plain → Result Programs Status
 all_in_tiles job plain = do
-  front ← in_tiles_if job (front_step job plain.step) plain.front
+  grid ← front_grid job plain.frame
+  front ← in_tiles_if job (front_step job plain.step) (option_map (levelled_if grid job.pitch) plain.front)
   back ← in_tiles_if job (back_step job plain.step) plain.back
   drill ← in_tiles_if job (front_step job plain.step) plain.drill
   outline ← in_tiles_if job (front_step job plain.step) plain.outline
@@ -115,10 +142,10 @@ all_in_tiles job plain = do
 
 -- each is a program that can be written
 pub record AreValid (programs : Programs) : Type 0 where
-  pub front : IfSome programs.front IsProgram
-  pub back : IfSome programs.back IsProgram
-  pub drill : IfSome programs.drill IsProgram
-  pub outline : IfSome programs.outline IsProgram
+  pub front : IfSome programs.front IsWritable
+  pub back : IfSome programs.back IsWritable
+  pub drill : IfSome programs.drill IsWritable
+  pub outline : IfSome programs.outline IsWritable
 
 -- the same of one that is put into tiles, which can run besides
 abbrev pub IsReady : Program → Type 0
@@ -137,7 +164,7 @@ pub record Made : Type 0 where
   pub plans : Plans
   pub programs : Programs
 
--- the plans, and then their programs in tiles; each step refuses before the next
+-- the plans, and then their programs, levelled and in tiles; each step refuses before the next
 abbrev pub AreMade : Accepts → Result Made Status → Type 0
 AreMade x =
     Then (ArePlanned x) (λ plans.

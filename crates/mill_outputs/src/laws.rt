@@ -1,15 +1,16 @@
 // What Done means, and that what is made is one.
 ghost use Rattle.mill_outputs.specs.Done.{AfterDone};
-ghost use Rattle.mill_outputs.specs.Headline.{OfSides, IsTextOf, NeverBites, PassesVisited, FollowsWalks, Clears, Counts, Separates, OfHoles, DrillsHoles, OfOutline, CutsBoardOut, LeavesBridges};
+ghost use Rattle.mill_outputs.specs.Headline.{OfSides, IsTextOf, LevelsFront, NeverBites, PassesVisited, FollowsWalks, Clears, Counts, Separates, OfHoles, DrillsHoles, OfOutline, CutsBoardOut, LeavesBridges};
 ghost use Rattle.mill_outputs.specs.Written.{OneOfEach};
 
 use drill_plan::{few_diameters_law, limits_law, one_plan_law};
 use drill_program::tiled_holes_law;
-use ngc_writer::spelling_law;
+use grid_writer::spelling_over_law;
 use one_programs::{one_outline_law, one_side_law};
 use outline_tiles::tiled_outline_law;
 use side_runs::{apart_law, tiled_side_law, tiled_strokes_law};
-use tiling::{shifts_law, tile_value_law, tiled_program_law};
+use side_surfaces::{flat_side_law, levelled_sides_law};
+use tiling::{one_tile_law, shifts_law, tile_value_law, tiled_program_law};
 
 /// Each image has one program, and each drill file one drill list.
 pub fn one_of_each_law()
@@ -23,6 +24,7 @@ pub fn one_of_each_law()
 /// What was written for each side, for the holes and for the outline after Done, from the bytes read to the bytes written.
 pub fn headline_law()
     ensures words { AfterDone (OfSides IsTextOf) }
+    ensures levelled { AfterDone LevelsFront }
     ensures no_bite { AfterDone (OfSides NeverBites) }
     ensures visited { AfterDone (OfSides PassesVisited) }
     ensures walks { AfterDone (OfSides FollowsWalks) }
@@ -43,5 +45,8 @@ pub fn headline_law()
     shifts_law();
     apart_law();
     tiled_program_law();
-    spelling_law();
+    one_tile_law();
+    flat_side_law();
+    levelled_sides_law();
+    spelling_over_law();
 }

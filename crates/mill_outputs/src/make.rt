@@ -1,8 +1,6 @@
 // The files that `mill` makes, before any of them is written.
 ghost use Rattle.std.specs.Prelude.{◌≡◌, ◌⊎◌, ◌++◌, [], ◌∷◌, None, Err, Result, IfOk, IfSome, OnOk, IsErrOf, string_bytes};
-ghost use Rattle.rs274_sim.specs.Spelling.{text_of};
-ghost use Rattle.mill_program.specs.Conditions.{IsProgram};
-ghost use Rattle.mill_program.specs.Lines.{lines_of};
+ghost use Rattle.grid_writer.specs.Conditions.{IsWritable};
 ghost use Rattle.excellon.specs.Fits.{IsDrilled};
 ghost use Rattle.drill_plan.specs.Limits.{IsWithinLimits};
 ghost use Rattle.job_file.specs.Ranges.{IsInRanges};
@@ -22,13 +20,15 @@ use crate::{Plans, Programs};
 use board_base::{Name, Role};
 use drill_plan::{few_diameters_law, limits_law};
 use endings::{OutFile, Status};
+use grid_writer::write_over;
 use job_file::Job;
 use mill_inputs::Accepted;
-use mill_program::{Program, lines};
-use ngc_writer::write_program;
+use mill_program::Program;
+use side_levels::{lattice_law, probed_law};
 use side_runs::apart_law;
+use side_surfaces::levelled_sides_law;
 use std::alloc::{AllocError, Global};
-use tiling::{shifts_law, tile_value_law, tiled_program_law};
+use tiling::{one_tile_law, shifts_law, tile_value_law, tiled_program_law};
 
 // The name of a file: behind the job's base name and an underscore, where there is one.
 fn full_name(alloc: Global, base: &Option<Name>, name: &str) -> Result<String, AllocError>
@@ -60,16 +60,6 @@ fn add_file(
     Ok(())
 }
 
-// The bytes of a program.
-fn program_bytes(alloc: Global, program: &Program) -> Result<Vec<u8>, AllocError>
-    requires { IsProgram program.now }
-    ensures { IfOk result (λ bytes. bytes.items ≡ text_of (lines_of program.now)) }
-{
-    let lines = lines(alloc, program)?;
-    let bytes = write_program(alloc, &lines)?;
-    Ok(bytes)
-}
-
 // Adds the text of a program, where there is one.
 fn add_program(
     alloc: Global,
@@ -79,12 +69,12 @@ fn add_program(
     name: &str,
     program: &Option<Program>,
 ) -> Result<(), AllocError>
-    requires { IfSome program.now IsProgram }
+    requires { IfSome program.now IsWritable }
     ensures { OnOk result (outputs_of files.new.items ≡ outputs_of files.old.items ++ program_file base.now role name.now program.now) }
 {
     match program {
         Some(program) => {
-            let bytes = program_bytes(alloc, program)?;
+            let bytes = write_over(alloc, program)?;
             add_file(alloc, files, base, role, name, bytes)
         }
         None => Ok(()),
@@ -142,13 +132,13 @@ fn made_files(
     Ok(files)
 }
 
-/// Plans what was accepted, puts the programs of the sides, of the holes and of the outline into the tiles of the job,
-/// and makes their texts and the report.
+/// Plans what was accepted, levels the program of the front where the job asks for it, puts the programs of the sides, of
+/// the holes and of the outline into the tiles of the job, and makes their texts and the report.
 ///
 /// # Errors
 ///
 /// `Limit` where a side passes a limit, the front before the back, then `Outline`, then `Limit` where the outline passes
-/// one, then `Limit` where a tile is past the range, and `Memory`.
+/// one, then `Limit` where there are too many probes, then where a tile is past the range, and `Memory`.
 pub fn make_files(alloc: Global, accepted: &Accepted) -> Result<Vec<OutFile>, Status>
     requires named { IsNamed (accepts_of accepted.now) }
     requires ranges { IsInRanges (accepted.now).job }
@@ -166,6 +156,10 @@ pub fn make_files(alloc: Global, accepted: &Accepted) -> Result<Vec<OutFile>, St
     shifts_law();
     apart_law();
     tiled_program_law();
+    one_tile_law();
+    levelled_sides_law();
+    probed_law();
+    lattice_law();
     one_of_each_law();
     let plans = match make_plans(alloc, accepted) {
         Ok(plans) => plans,

@@ -18,6 +18,8 @@ mod faults;
 #[cfg(test)]
 mod holes;
 #[cfg(test)]
+mod levels;
+#[cfg(test)]
 mod lines;
 #[cfg(test)]
 mod outlines;

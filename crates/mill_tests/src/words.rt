@@ -78,11 +78,11 @@ const JOBS: [(&str, JobKind, u8, u32, &str); 8] = [
         "OutOfRange key 8 place 2",
     ),
     (
-        "front=a.gbr\nal-front=1\n",
-        JobKind::NotBuiltYet,
-        33,
+        "front=a.gbr\ntile-x=2\nal-front=1\n",
+        JobKind::OutOfRange,
+        31,
         2,
-        "NotBuiltYet key 33 place 2",
+        "OutOfRange key 31 place 2",
     ),
 ];
 

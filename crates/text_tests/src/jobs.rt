@@ -55,7 +55,10 @@ fn lines_are_refused_at_their_places(rt: HostRuntime) {
         ("# board\nmetric=true\n", (JobKind::Missing, 0, 0)),
         ("front=a\n\nx\n", (JobKind::BadValue, 0, 3)),
         ("front=a\ntile-x=0\n", (JobKind::OutOfRange, 31, 2)),
-        ("outline=b\r\nal-front=1\r\n", (JobKind::NotBuiltYet, 33, 2)),
+        (
+            "outline=b\r\nal-front=1\r\ntile-x=2\r\n",
+            (JobKind::OutOfRange, 31, 3),
+        ),
     ] {
         assert_eq!(rt;
             read(rt.alloc(), file, &[], None).err(),
@@ -79,7 +82,7 @@ fn words_are_refused_at_their_places(rt: HostRuntime) {
         ("--tile-y=21", Some((JobKind::OutOfRange, 32, WORD))),
         ("--tile-x=2", None),
         ("--tile-y=20", None),
-        ("--al-front=1", Some((JobKind::NotBuiltYet, 33, WORD))),
+        ("--al-front=1", None),
         ("--tile-x=1", None),
         ("--al-front=0", None),
         ("--zchange=1.999", Some((JobKind::OutOfRange, 10, WORD))),
