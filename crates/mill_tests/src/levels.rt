@@ -137,6 +137,24 @@ fn a_levelled_program_passes_with_answers_that_fit(rt: HostRuntime) -> Result<()
 const FAR_DISCS: &[u8] =
     b"%FSLAX46Y46*%\n%MOMM*%\n%ADD10C,0.100000*%\nD10*\nX100000Y100000D03*\nX38900000Y38900000D03*\nM02*\n";
 
+// Round the second of them, over probes 10 mm from one another, where no move is long enough to be cut into pieces.
+const LAST_CUT: &str = "G0 X38.500000 Y38.500000\n\
+    G1 Z[-0.100000+0.010000*#119+0.090000*#120+0.090000*#124+0.810000*#125] F100.000000\n\
+    G1 X39.300000 Y38.500000 Z[-0.100000+0.002000*#119+0.098000*#120+0.018000*#124+0.882000*#125] F200.000000\n\
+    G1 X39.300000 Y39.300000 Z[-0.100000+0.000400*#119+0.019600*#120+0.019600*#124+0.960400*#125]\n\
+    G1 X38.500000 Y39.300000 Z[-0.100000+0.002000*#119+0.018000*#120+0.098000*#124+0.882000*#125]\n\
+    G1 X38.500000 Y38.700000 Z[-0.100000+0.008000*#119+0.072000*#120+0.092000*#124+0.828000*#125]\n\
+    G0 Z2.000000\nG0 Z10.000000\nM5\nM2\n";
+
+#[test]
+fn short_moves_stay_whole(rt: HostRuntime) -> Result<(), Fail> {
+    let (status, shelf, _) = levelled(rt.alloc(), FAR_DISCS, &[])?;
+    assert_eq!(rt; status, Status::Done);
+    let program = shelf.get("front.ngc").ok_or("not written")?;
+    assert!(rt; program.ends_with(LAST_CUT.as_bytes()));
+    Ok(())
+}
+
 #[test]
 fn more_than_900_probes_are_a_limit(rt: HostRuntime) -> Result<(), Fail> {
     let (status, shelf, lines) = levelled(rt.alloc(), FAR_DISCS, &["--al-x=1", "--al-y=1"])?;
