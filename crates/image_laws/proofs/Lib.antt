@@ -1,0 +1,4 @@
+pub mod Literals
+pub mod Rounds
+pub mod Painted
+pub mod Traced

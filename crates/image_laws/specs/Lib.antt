@@ -1,0 +1,4 @@
+pub mod Literal
+pub mod Rectangles
+pub mod Painting
+pub mod Tracing

@@ -1,0 +1,30 @@
+//! What an image comes to, in the words of the field: near a segment, the rectangle round what is dark, the objects of
+//! a file in their order with each repeat replaced by its copies, and the contours of a region. Laws alone, over what
+//! lower crates define; no file here may define it once more.
+#![tactic(auto)]
+
+ghost use Rattle.image_laws.specs.Literal.{NearLaw};
+ghost use Rattle.image_laws.specs.Rectangles.{RectangleLaw};
+ghost use Rattle.image_laws.specs.Painting.{ImageLaw};
+ghost use Rattle.image_laws.specs.Tracing.{RegionLaw};
+
+/// Near a segment is: some point of it is within half of `d`.
+pub fn near_law()
+    ensures { NearLaw }
+{}
+
+/// The rectangle of a shape, and the one of what is dark, is the least one round the squares of its parts; there is none
+/// exactly where there is no square.
+pub fn rectangle_law()
+    ensures { RectangleLaw }
+{}
+
+/// Commands add their objects in order, and SR the copies of the objects since the repeat was opened.
+pub fn image_law()
+    ensures { ImageLaw }
+{}
+
+/// The contours of a region begin at the current point and at each move, and the draws add their points.
+pub fn region_law()
+    ensures { RegionLaw }
+{}
