@@ -23,3 +23,6 @@ pub fn words<R: Env>(rt: &R, alloc: Global) -> Result<Vec<String>, AllocError> {
     }
     Ok(words)
 }
+
+#[cfg(test)]
+mod tests;

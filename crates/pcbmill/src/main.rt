@@ -4,26 +4,25 @@
 #![tactic(auto)]
 
 mod arguments;
+mod exit;
 mod folder;
 mod terminal;
 mod watched;
 
 use arguments::words;
+use exit::ending;
 use folder::FolderShelf;
-use mill_top::Status;
 use std::process::ExitCode;
 use terminal::Terminal;
 use watched::run_watched;
 
 fn main(rt: HostRuntime) -> ExitCode {
     let alloc = rt.alloc();
-    let Ok(words) = words(&rt, alloc) else {
-        return ExitCode::from(Status::Memory.number());
+    let words = match words(&rt, alloc) {
+        Ok(words) => words,
+        Err(error) => return ending(Err(error)),
     };
     let mut shelf = FolderShelf::new(&rt);
     let mut out = Terminal::new(&rt);
-    let Ok(status) = run_watched(alloc, &words, &mut shelf, &mut out) else {
-        return ExitCode::from(Status::Memory.number());
-    };
-    ExitCode::from(status.number())
+    ending(run_watched(alloc, &words, &mut shelf, &mut out))
 }

@@ -1,7 +1,9 @@
 use super::run_watched;
+use crate::exit::ending;
 use crate::folder::FolderShelf;
 use board_base::{MemorySink, Role};
 use mill_top::Status;
+use std::process::ExitCode;
 use std::test::Fail;
 
 // Words, the status that they come to in a folder without files, its number and its line.
@@ -44,7 +46,7 @@ fn refusals_have_their_numbers_and_lines(rt: HostRuntime) -> Result<(), Fail> {
         let mut sink = MemorySink::new(alloc);
         let answer = run_watched(alloc, &words, &mut shelf, &mut sink)?;
         assert_eq!(rt; answer, status);
-        assert_eq!(rt; answer.number(), number);
+        assert_eq!(rt; ending(Ok(answer)), ExitCode::from(number));
         assert_eq!(rt; sink.bytes(), line.as_bytes());
     }
     Ok(())
