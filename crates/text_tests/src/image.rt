@@ -357,3 +357,22 @@ fn macros(rt: HostRuntime) {
         unit,
     );
 }
+
+#[test]
+fn a_layer_of_more_than_a_megabyte(rt: HostRuntime) {
+    let alloc = rt.alloc();
+    let Ok(comment) = repeated(alloc, b"0123456789", 120_000) else {
+        panic!(rt; "no memory");
+    };
+    let Ok(bytes) = joined(
+        alloc,
+        &[
+            b"G04".as_slice(),
+            &comment,
+            b"*%FSLAX46Y46*%%MOMM*%%ADD10C,1*%D10*X0Y0D03*M02*",
+        ],
+    ) else {
+        panic!(rt; "no memory");
+    };
+    paints(&rt, alloc, &bytes, &[disc(0, 0, 1000, true)]);
+}
