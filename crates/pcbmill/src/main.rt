@@ -18,11 +18,12 @@ use watched::run_watched;
 
 fn main(rt: HostRuntime) -> ExitCode {
     let alloc = rt.alloc();
+    let mut out = Terminal::new(&rt);
     let words = match words(&rt, alloc) {
         Ok(words) => words,
-        Err(error) => return ending(Err(error)),
+        Err(error) => return ending(Err(error), &mut out),
     };
     let mut shelf = FolderShelf::new(&rt);
-    let mut out = Terminal::new(&rt);
-    ending(run_watched(alloc, &words, &mut shelf, &mut out))
+    let answer = run_watched(alloc, &words, &mut shelf, &mut out);
+    ending(answer, &mut out)
 }

@@ -3,6 +3,7 @@ use crate::exit::ending;
 use crate::folder::FolderShelf;
 use board_base::{MemorySink, Role};
 use mill_top::Status;
+use std::alloc::AllocError;
 use std::process::ExitCode;
 use std::test::Fail;
 
@@ -46,8 +47,15 @@ fn refusals_have_their_numbers_and_lines(rt: HostRuntime) -> Result<(), Fail> {
         let mut sink = MemorySink::new(alloc);
         let answer = run_watched(alloc, &words, &mut shelf, &mut sink)?;
         assert_eq!(rt; answer, status);
-        assert_eq!(rt; ending(Ok(answer)), ExitCode::from(number));
+        assert_eq!(rt; ending(Ok(answer), &mut sink), ExitCode::from(number));
         assert_eq!(rt; sink.bytes(), line.as_bytes());
     }
     Ok(())
+}
+
+#[test]
+fn want_of_memory_for_the_words_has_its_line(rt: HostRuntime) {
+    let mut sink = MemorySink::new(rt.alloc());
+    assert_eq!(rt; ending(Err(AllocError), &mut sink), ExitCode::from(12));
+    assert_eq!(rt; sink.bytes(), b"pcbmill: memory\n");
 }
