@@ -11,15 +11,17 @@ mod name;
 mod places;
 mod shelf;
 mod sink;
+mod steady;
 
 pub use items::Items;
 pub use lattice::{centre, first_at, half_diagonal, last_at};
-pub use memory::{MemoryShelf, SteadyShelf};
+pub use memory::MemoryShelf;
 pub use memory_sink::{MemorySink, SteadySink};
 pub use name::Name;
 pub use places::{Bounds, Cell, CellBox, Move, MoveKind, Point, Pos, Role, Side, is_coordinate};
 pub use shelf::{Shelf, ShelfError};
 pub use sink::{Sink, SinkError};
+pub use steady::SteadyShelf;
 
 #[cfg(test)]
 mod tests;
