@@ -6,34 +6,24 @@ ghost use Rattle.fixed_num.specs.Shown.{decimal_shown};
 ghost use Rattle.fixed_num.specs.Values.{decimals_used as decimals_used_in, short_of, read_at, cut_at};
 
 use crate::decimal::{DecimalText, SignMark, split_decimal};
-use std::error::Error;
-use std::fmt;
+use thiserror::Error;
 
 /// Why bytes are no number.
-#[derive(Clone, Copy, Debug, PartialEq, Eq)]
+#[derive(Clone, Copy, Debug, PartialEq, Eq, Error)]
 pub enum NumError {
     /// The bytes are no decimal.
+    #[error("not a number")]
     NotNumber,
     /// More than 18 digits stand before the point.
+    #[error("more than 18 digits before the point")]
     TooLong,
     /// A digit past the scale isn't 0.
+    #[error("{decimals} decimals are too many")]
     TooFine {
         /// The number of decimals up to the last one that isn't 0.
         decimals: u64,
     },
 }
-
-impl fmt::Display for NumError {
-    fn fmt<W: fmt::Write>(&self, f: &mut fmt::Formatter<W>) -> fmt::Result {
-        match self {
-            NumError::NotNumber => write!(f, "not a number"),
-            NumError::TooLong => write!(f, "more than 18 digits before the point"),
-            NumError::TooFine { decimals } => write!(f, "{decimals} decimals are too many"),
-        }
-    }
-}
-
-impl Error for NumError {}
 
 // The number that digits write when they follow those of `start`.
 fn number(start: u128, digits: &[u8]) -> u128
