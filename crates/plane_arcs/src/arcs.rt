@@ -11,8 +11,7 @@ use crate::vectors::{between, is_same, is_zero, last_quarter, quarter_on, radius
 use board_base::Point;
 use number_laws::sum;
 use std::alloc::Global;
-use std::error::Error;
-use std::fmt;
+use thiserror::Error;
 
 /// A circular arc from a point to another, or a full circle where the two are one. All in nanometres.
 #[derive(Clone, Copy, Debug, PartialEq, Eq)]
@@ -25,9 +24,10 @@ pub struct Arc {
 }
 
 /// Why an arc has no chain.
-#[derive(Clone, Copy, Debug, PartialEq, Eq)]
+#[derive(Clone, Copy, Debug, PartialEq, Eq, Error)]
 pub enum ArcError {
     /// The ends don't lie on one circle round the centre.
+    #[error("an arc whose ends are {start_radius} and {end_radius} nm from its centre")]
     OpenArc {
         /// The distance of the start from the centre, cut to whole nanometres.
         start_radius: i64,
@@ -35,28 +35,12 @@ pub enum ArcError {
         end_radius: i64,
     },
     /// A point of the chain is more than 500 mm from an axis.
+    #[error("an arc past the range")]
     PastRange,
     /// The memory doesn't suffice.
+    #[error("out of memory")]
     Memory,
 }
-
-impl fmt::Display for ArcError {
-    fn fmt<W: fmt::Write>(&self, f: &mut fmt::Formatter<W>) -> fmt::Result {
-        match self {
-            ArcError::OpenArc {
-                start_radius,
-                end_radius,
-            } => write!(
-                f,
-                "an arc whose ends are {start_radius} and {end_radius} nm from its centre"
-            ),
-            ArcError::PastRange => write!(f, "an arc past the range"),
-            ArcError::Memory => write!(f, "out of memory"),
-        }
-    }
-}
-
-impl Error for ArcError {}
 
 // Where an arc lies, and how finely it is cut.
 #[derive(Clone, Copy, Debug)]
