@@ -6,3 +6,4 @@ pub mod WindowLaws
 pub mod CellsLaws
 pub mod ListLaws
 pub mod Copying
+pub mod SpanLaws

@@ -30,11 +30,11 @@ plane_read w Pass k h = bits_at_read 2 w.flags.items k h
 plane_read w Visited k h = bits_at_read 3 w.flags.items k h
 plane_read w Swept k h = bits_at_read 4 w.flags.items k h
 
-changed : (b : ℕ) (xs : List ℕ) (k v : ℕ) (on : Bool) → (bit_at v b == 1) ≡ on → bits_at b (set xs k v) ≡ set (bits_at b xs) k on
+pub changed : (b : ℕ) (xs : List ℕ) (k v : ℕ) (on : Bool) → (bit_at v b == 1) ≡ on → bits_at b (set xs k v) ≡ set (bits_at b xs) k on
 unfolding bits_at
 changed b xs k v on e = map-set (λ (n : ℕ). bit_at n b == 1) xs k v ∙ ap (λ (x : Bool). set (map (λ (n : ℕ). bit_at n b == 1) xs) k x) e
 
-kept_so : (b : ℕ) (xs : List ℕ) (k v : ℕ) → bit_at v b ≡ bit_at (get_or xs k 0) b → bits_at b (set xs k v) ≡ bits_at b xs
+pub kept_so : (b : ℕ) (xs : List ℕ) (k v : ℕ) → bit_at v b ≡ bit_at (get_or xs k 0) b → bits_at b (set xs k v) ≡ bits_at b xs
 unfolding bits_at
 kept_so b xs k v e = map-set_same (λ (n : ℕ). bit_at n b == 1) xs k v 0 (ap (λ (x : ℕ). x == 1) e)
 
@@ -94,6 +94,12 @@ pub read_place : (w : Inside) (g : Grid) (p : Plane) (k n b : ℕ) (r : Bool) �
 read_place w g p k n b r view below byte bit e =
     e ∙ ap (λ (x : ℕ). bit_at n x == 1) bit ∙ ap (λ (x : ℕ). bit_at x (bit_number p) == 1) (byte ∙ get_or_default w.flags.items k n 0 below) ∙ plane_read w p k below
     ∙ ap (λ (x : Grid). get_or (plane_of x p) k false) view
+
+-- the bit at a place tells whether its cell is in the plane
+pub place_read : (w : Inside) (g : Grid) (p : Plane) (k b : ℕ) (on : Bool) → grid_of w ≡ g → k < length w.flags.items → b ≡ bit_number p → (bit_at (get_or w.flags.items k 0) b == 1) ≡ on
+    → get_or (plane_of g p) k false ≡ on
+place_read w g p k b on view below bit e =
+    sym (ap (λ (x : Grid). get_or (plane_of x p) k false) view) ∙ sym (plane_read w p k below) ∙ ap (λ (x : ℕ). bit_at (get_or w.flags.items k 0) x == 1) (sym bit) ∙ e
 
 -- what `get` says, from what its steps gave
 pub read_at : (w : Inside) (g : Grid) (p : Plane) (c : Cell) (k n b : ℕ) (r : Bool) → grid_of w ≡ g → k < length w.flags.items → k ≡ place_of w.frame c

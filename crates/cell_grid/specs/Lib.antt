@@ -6,6 +6,7 @@ pub mod Waiting
 pub mod Stored
 pub mod Rows
 pub mod Grid
+pub mod Spans
 pub mod PlaneBits
 pub mod Planes
 pub mod Cells

@@ -7,6 +7,7 @@ ghost use Rattle.cell_grid.specs.Place.{IsFrame, IsPlaced, InFrame, place_of, ce
 ghost use Rattle.cell_grid.specs.Limits.{size_fault};
 ghost use Rattle.cell_grid.specs.Grid.{Grid, plane_of, with_plane, blank_of, IsSized};
 
+mod spans;
 mod wholes;
 
 use crate::bits::{Plane, bit, has_bit, with_bit};

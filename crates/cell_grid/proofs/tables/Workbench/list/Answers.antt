@@ -1,4 +1,4 @@
-use Rattle.std.proofs.Common.{◌≡◌, ◌<◌, Bool, false, length, get_or, ap, sym, subst, ◌∙◌, arith}
+use Rattle.std.proofs.Common.{◌≡◌, ◌<◌, false, length, get_or, ap, ◌∙◌, arith}
 use Rattle.board_base.specs.declared.places.Cell.{Cell}
 use Rattle.std.specs.Global.{Vec}
 use Rattle.cell_grid.specs.Grid.{Grid, plane_of}

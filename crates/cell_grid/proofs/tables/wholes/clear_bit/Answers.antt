@@ -1,4 +1,4 @@
-use Rattle.std.proofs.Common.{◌≤◌, length, arith}
+use Rattle.std.proofs.Common.{arith}
 use Rattle.cell_grid.proofs.PlaneLaws.{all_cleared, others_same}
 use Rattle.cell_grid.proofs.tables.wholes.clear_bit.Goals as goal
 
