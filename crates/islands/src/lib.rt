@@ -5,7 +5,9 @@
 #![tactic(auto)]
 
 mod classes;
-mod floods;
+mod counts;
+mod forests;
+mod joins;
 mod labels;
 mod ways;
 
