@@ -1,13 +1,14 @@
 // Rows of bits by marks: each edge that crosses a row turns the mark of the first column at or right of the
 // crossing, and an odd number of marks up to a column says that the area holds its centre.
-ghost use Rattle.std.specs.Prelude.{◌≡◌, ℕ, ◌<◌, ◌≤◌, ℤ, pos, ◌+ℤ◌, ◌-ℤ◌, ◌≤ℤ◌, unsigned_abs, leb, int_le, false, length, slice_index_or, replicate};
+ghost use Rattle.std.specs.Prelude.{◌≡◌, ℕ, ◌<◌, ◌≤◌, ◌*◌, ◌||◌, ℤ, pos, ◌+ℤ◌, ◌-ℤ◌, ◌≤ℤ◌, unsigned_abs, leb, int_le, int_lt, false, length, slice_index_or, replicate};
 ghost use Rattle.board_base.specs.Places.{IsNearCoordinate, IsNearPlace};
 ghost use Rattle.board_base.specs.Lattice.{IsPitch, IsLimit, half_of};
 ghost use Rattle.poly_area.specs.Crossing.{xor};
-ghost use Rattle.poly_area.specs.Area.{edges_of, edge_at, crosses, area_holds, on_row};
+ghost use Rattle.poly_area.specs.Area.{edges_of, edge_at, crosses, area_holds, on_row, odd_of};
+ghost use Rattle.poly_area.specs.Blocks.{block_edges};
 ghost use Rattle.poly_area.specs.Rows.{column_x, centre_at, running};
 
-use crate::Poly;
+use crate::{Block, Poly};
 use board_base::{Point, first_at};
 
 // Half of a pitch.
@@ -88,6 +89,41 @@ fn flip_edge(marks: &mut [bool], poly: &Poly, edge: u32, y: i64, west: i64, pitc
     }
 }
 
+// Whether a block stands on one side of the row: none of its edges crosses it.
+fn passes(block: Block, y: i64) -> bool
+    ensures { result ≡ (int_le block.high y || int_lt y block.low) }
+{
+    if block.high <= y { true } else { y < block.low }
+}
+
+// Turns a mark for each edge of a block that crosses the row, edge by edge.
+fn flip_each(marks: &mut [bool], poly: &Poly, block: u32, y: i64, west: i64, pitch: i64)
+    requires block { 16 * block < length (edges_of poly.now) }
+    requires west { IsNearCoordinate west }
+    requires pitch { IsPitch pitch }
+    ensures { (k : ℕ) → k < length marks.new
+        → running marks.new k ≡ xor (running marks.old k) (odd_of (crosses (on_row (column_x west pitch k) y)) (block_edges (edges_of poly.now) block)) }
+{
+    let end = poly.block_end(block);
+    'edges: for edge in 16 * block..end {
+        flip_edge(marks, poly, edge, y, west, pitch);
+    }
+}
+
+// Turns a mark for each edge of a block that crosses the row.
+fn flip_block(marks: &mut [bool], poly: &Poly, block: u32, y: i64, west: i64, pitch: i64)
+    requires block { 16 * block < length (edges_of poly.now) }
+    requires west { IsNearCoordinate west }
+    requires pitch { IsPitch pitch }
+    ensures { (k : ℕ) → k < length marks.new
+        → running marks.new k ≡ xor (running marks.old k) (odd_of (crosses (on_row (column_x west pitch k) y)) (block_edges (edges_of poly.now) block)) }
+{
+    if passes(poly.block(block), y) {
+        return;
+    }
+    flip_each(marks, poly, block, y, west, pitch);
+}
+
 // Turns a mark for each edge that crosses the row.
 fn flip_edges(marks: &mut [bool], poly: &Poly, y: i64, west: i64, pitch: i64)
     requires west { IsNearCoordinate west }
@@ -95,8 +131,8 @@ fn flip_edges(marks: &mut [bool], poly: &Poly, y: i64, west: i64, pitch: i64)
     ensures { (k : ℕ) → k < length marks.new
         → running marks.new k ≡ xor (running marks.old k) (area_holds (on_row (column_x west pitch k) y) poly.now) }
 {
-    'edges: for edge in 0..poly.edges() {
-        flip_edge(marks, poly, edge, y, west, pitch);
+    'all: for block in 0..poly.blocks() {
+        flip_block(marks, poly, block, y, west, pitch);
     }
 }
 
