@@ -1,2 +1,6 @@
 pub mod Ways
+pub mod Rests
+pub mod Fronts
+pub mod Further
+pub mod GoesOn
 pub mod TileLaws

@@ -2,7 +2,8 @@
 ghost use Rattle.std.specs.Prelude.{◌≡◌, ◌<◌, ◌≤◌, ◌+◌, ◌-◌, ℕ, Bool, true, false, length, take, drop, get_or, reverse, MatchOption, MatchResult, None, Some, Ok, Err, Option, Result, ◌==◌, IfSome, IfOk, ◌&&◌, not, ◌^◌};
 ghost use Rattle.std.specs.List.{position};
 ghost use Rattle.gerber_lexer.specs.Tiles.{CommandsTile, CommandsWithin};
-ghost use Rattle.gerber_lexer.specs.Cut.{is_break, way_to, breaks_before, breaks_behind, trimmed, ends_in_star, is_macro, first_byte, block_rest, way_to_end, block_command, word_command, command_in, outside_command, percent, IsWithin, found_at, next_of};
+ghost use Rattle.gerber_lexer.specs.Cut.{is_break, way_to, breaks_before, breaks_behind, trimmed, ends_in_star, is_macro, first_byte, block_rest, way_to_end, block_command, word_command, command_in, outside_command, percent, IsWithin, found_at, next_of, GoesOn};
+ghost use Rattle.std.specs.Option.{IsSome};
 
 use text_cut::position_of;
 
@@ -103,13 +104,28 @@ fn first_byte(bytes: &[u8]) -> u8
     if i < bytes.len() { bytes[i] } else { 0 }
 }
 
+// What stands behind the byte at offset `i`.
+fn behind(bytes: &[u8], i: usize) -> &[u8]
+    requires { i < length bytes.now }
+    ensures { result.now ≡ drop (i + 1) bytes.now }
+{
+    &bytes[i + 1..]
+}
+
+// Whether a block goes on before these bytes, which stand behind a star.
+fn goes_on(bytes: &[u8]) -> bool
+    ensures { result ≡ not (first_byte bytes.now == percent) }
+{
+    first_byte(bytes) != b'%'
+}
+
 // What stands behind the first byte that is no line break.
 fn behind_first(bytes: &[u8]) -> &[u8]
     ensures { result.now ≡ drop (breaks_before bytes.now + 1) bytes.now }
 {
     let i = breaks_before(bytes);
     if i < bytes.len() {
-        &bytes[i + 1..]
+        behind(bytes, i)
     } else {
         &bytes[bytes.len()..]
     }
@@ -184,6 +200,44 @@ fn block_command(at: usize, rest: &[u8]) -> Option<Span>
     Some(command_in(at, block, way))
 }
 
+// The command that ends at the first star, in a block that goes on here.
+#[tactic(auto, using(crate::proofs::Further::near_short))]
+fn near_command(at: usize, rest: &[u8]) -> Span
+    requires room { at + length rest.now < 2 ^ 63 }
+    requires stands { IsSome (block_command at rest.now) }
+    requires word { is_macro rest.now ≡ false }
+    ensures { block_command at rest.now ≡ Some result }
+{
+    let to = way_to(b'*', rest);
+    let behind = behind(rest, to);
+    let inside = goes_on(behind);
+    Span {
+        from: at + breaks_before(rest),
+        to: at + to,
+        extended: true,
+        inside,
+        next: if inside {
+            at + to + 1
+        } else {
+            at + to + 1 + breaks_before(behind) + 1
+        },
+    }
+}
+
+// The command of a block that goes on here. The block's end is looked for only where a macro takes all of it.
+fn further_command(at: usize, rest: &[u8]) -> Option<Span>
+    requires room { at + length rest.now < 2 ^ 63 }
+    requires stands { IsSome (block_command at rest.now) }
+    ensures value { result ≡ block_command at rest.now }
+    ensures bounds { IfSome result (IsWithin at (at + length rest.now)) }
+{
+    if is_macro(rest) {
+        block_command(at, rest)
+    } else {
+        Some(near_command(at, rest))
+    }
+}
+
 // The word command whose first byte is here.
 fn word_command(at: usize, rest: &[u8]) -> Option<Span>
     requires { at + length rest.now < 2 ^ 63 }
@@ -227,6 +281,22 @@ fn outside_command(at: usize, rest: &[u8]) -> Result<Option<Span>, LexError>
     }
 }
 
+// The next command, from an offset on.
+fn command_from(bytes: &[u8], at: usize, inside: bool) -> Result<Option<Span>, LexError>
+    requires at { at ≤ length bytes.now }
+    requires inside { inside ≡ true → GoesOn at bytes.now }
+    ensures bounds { IfOk result (λ found. IfSome found (IsWithin at (length bytes.now))) }
+    ensures value { MatchResult result (λ found. next_of bytes.now at inside ≡ Ok found) (λ e. next_of bytes.now at inside ≡ Err e.at) }
+{
+    let rest = &bytes[at..];
+    if inside {
+        found_at(at, further_command(at, rest))
+    } else {
+        let breaks = breaks_before(rest);
+        outside_command(at + breaks, &rest[breaks..])
+    }
+}
+
 /// The next command from an offset on (Gerber Layer Format Specification of Ucamco, chapter 3), or None where only line breaks are left. `inside` tells that the
 /// offset lies in a block that has a further command; a command tells it, and its `next` is the offset.
 ///
@@ -234,17 +304,13 @@ fn outside_command(at: usize, rest: &[u8]) -> Result<Option<Span>, LexError>
 ///
 /// A command or a block that isn't closed, and a block that doesn't end in a star.
 pub fn next_command(bytes: &[u8], at: usize, inside: bool) -> Result<Option<Span>, LexError>
-    requires { at ≤ length bytes.now }
+    requires at { at ≤ length bytes.now }
+    requires inside { inside ≡ true → GoesOn at bytes.now }
     ensures bounds { IfOk result (λ found. IfSome found (IsWithin at (length bytes.now))) }
+    ensures goes_on { IfOk result (λ found. IfSome found (λ c. c.inside ≡ true → GoesOn c.next bytes.now)) }
     ensures value { MatchResult result (λ found. next_of bytes.now at inside ≡ Ok found) (λ e. next_of bytes.now at inside ≡ Err e.at) }
 {
-    let rest = &bytes[at..];
-    if inside {
-        found_at(at, block_command(at, rest))
-    } else {
-        let breaks = breaks_before(rest);
-        outside_command(at + breaks, &rest[breaks..])
-    }
+    command_from(bytes, at, inside)
 }
 
 /// Commands tile the bytes: between them stand line breaks and percent signs alone, and each ends at its star.

@@ -11,6 +11,7 @@ commands-preserved-else-is_end c =
       reached = went_on c.args.bytes.now c.commands.at c.commands.inside (held_of c.commands.state) (held_of c.step.new.self) c.in-Ok-Some.span c.in-Ok-Some-read_command.command c.commands.invariant.reached next
           (sym c.in-Ok-Some-read_command.ensures.value ∙ c.in-Ok-Some-read_command.field-0-is) c.in-Ok.ensures.steps.0 (sym c.is_end.ensures ∙ c.if-is_end.false) c.in-Ok.ensures.steps.1;
       within = search rules;
+      goes_on = search rules;
       ready = c.in-Ok.ensures.ready;
     }
 
@@ -21,6 +22,7 @@ commands-preserved-else-is_end-2 c =
       reached = went_on c.args.bytes.now c.commands.at c.commands.inside (held_of c.commands.state) (held_of c.step.new.self) c.in-Ok-Some.span c.in-Ok-Some-read_command.command c.commands.invariant.reached next
           (sym c.in-Ok-Some-read_command.ensures.value ∙ c.in-Ok-Some-read_command.field-0-is) c.in-Ok.ensures.steps.0 (sym c.is_end.ensures ∙ c.if-is_end.false) c.in-Ok.ensures.steps.1;
       within = search rules;
+      goes_on = search rules;
       ready = c.in-Ok.ensures.ready;
     }
 
@@ -31,5 +33,6 @@ commands-preserved c =
       reached = went_on c.args.bytes.now c.commands.at c.commands.inside (held_of c.commands.state) (held_of c.step.new.self) c.in-Ok-Some.span c.in-Ok-Some-read_command.command c.commands.invariant.reached next
           (sym c.in-Ok-Some-read_command.ensures.value ∙ c.in-Ok-Some-read_command.field-0-is) c.in-Ok.ensures.steps.0 (sym c.is_end.ensures ∙ c.if-is_end.false) c.in-Ok.ensures.steps.1;
       within = search rules;
+      goes_on = search rules;
       ready = c.in-Ok.ensures.ready;
     }
