@@ -6,9 +6,8 @@ ghost use Rattle.apertures.specs.declared.aperture.ApertureError.TheVariants.{Me
 use macro_eval::MacroFault;
 use shape_parts::Shape;
 use std::alloc::AllocError;
-use std::error::Error;
-use std::fmt;
 use std::marker::Model;
+use thiserror::Error;
 
 /// The unit of a file's lengths.
 #[derive(Clone, Copy, Debug, PartialEq, Eq)]
@@ -20,33 +19,24 @@ pub enum Unit {
 }
 
 /// Why there is no aperture, or no shape of it at a place.
-#[derive(Clone, Copy, Debug, PartialEq, Eq)]
+#[derive(Clone, Copy, Debug, PartialEq, Eq, Error)]
 pub enum ApertureError {
     /// The text is outside the grammar of apertures.
+    #[error("no aperture")]
     Syntax,
     /// The hole is a rectangle.
+    #[error("a rectangular hole")]
     Unsupported,
     /// What is wrong with the macro for these arguments.
+    #[error("a macro with {0}")]
     Macro(MacroFault),
     /// A size is above 1,000,000,000 nm, or a point above 500,000,000 nm.
+    #[error("a size or a point past the range")]
     OutOfRange,
     /// The memory doesn't suffice.
+    #[error("out of memory")]
     Memory,
 }
-
-impl fmt::Display for ApertureError {
-    fn fmt<W: fmt::Write>(&self, f: &mut fmt::Formatter<W>) -> fmt::Result {
-        match self {
-            ApertureError::Syntax => write!(f, "no aperture"),
-            ApertureError::Unsupported => write!(f, "a rectangular hole"),
-            ApertureError::Macro(fault) => write!(f, "a macro with {fault}"),
-            ApertureError::OutOfRange => write!(f, "a size or a point past the range"),
-            ApertureError::Memory => write!(f, "out of memory"),
-        }
-    }
-}
-
-impl Error for ApertureError {}
 
 impl From<AllocError> for ApertureError {
     ghost from_gives = { λ _ e. e ≡ Memory };

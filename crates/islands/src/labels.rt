@@ -6,9 +6,11 @@ ghost use Rattle.cell_sets.specs.Islands.{AreIslands, AreMoreIslands};
 
 use crate::classes::number_classes;
 use cell_grid::{Plane, Workbench};
+use thiserror::Error;
 
 /// There are more than 65,535 islands.
-#[derive(Clone, Copy, Debug, PartialEq, Eq)]
+#[derive(Clone, Copy, Debug, PartialEq, Eq, Error)]
+#[error("more than 65535 islands")]
 pub struct TooManyIslands;
 
 /// Sets the labels to the numbers of the islands of kept cells, from 1 on, in the order of their first

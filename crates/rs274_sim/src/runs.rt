@@ -12,11 +12,16 @@ use crate::{Line, Machine, SimFault, Word};
 use board_base::Move;
 use move_watch::Viewer;
 use std::alloc::{AllocError, Global};
+use thiserror::Error;
 
 /// What stops a run: a fault of the line of this number (NoEnd with the number of lines), or want of memory.
-#[derive(Clone, Copy, Debug, PartialEq, Eq)]
+#[derive(Clone, Copy, Debug, PartialEq, Eq, Error)]
 pub enum RunFault {
+    /// A fault of this line.
+    #[error("{fault} at line {line}")]
     Sim { fault: SimFault, line: u32 },
+    /// The memory doesn't suffice.
+    #[error("out of memory")]
     Memory,
 }
 

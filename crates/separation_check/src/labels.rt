@@ -11,6 +11,7 @@ ghost use Rattle.separation_check.specs.Tears.{IsFault, AreWhole};
 use board_base::Cell;
 use cell_grid::{Frame, Plane, Workbench, cell_at, is_in_frame};
 use islands::number_rest;
+use thiserror::Error;
 
 /// Numbers the classes of the cells outside Swept in the working labels. All cells outside the frame
 /// are of class 1; swept cells have 0.
@@ -24,7 +25,8 @@ pub fn relabel(bench: &mut Workbench)
 
 /// Two neighbouring cells outside Swept whose working labels differ; all cells outside the frame count
 /// as labelled 1.
-#[derive(Clone, Copy, Debug, PartialEq, Eq)]
+#[derive(Clone, Copy, Debug, PartialEq, Eq, Error)]
+#[error("the cells {}, {} and {}, {} have two labels", .cell.i, .cell.j, .neighbour.i, .neighbour.j)]
 pub struct LabelFault {
     pub cell: Cell,
     pub neighbour: Cell,
