@@ -15,7 +15,7 @@ pub struct TooManyIslands;
 
 /// Sets the labels to the numbers of the islands of kept cells, from 1 on, in the order of their first
 /// cells, and gives their count; all other cells have the label 0. `TooManyIslands` exactly where there
-/// are more than 65,535; then all labels are 0. The working labels and the queue are used.
+/// are more than 65,535; then all labels are 0. The working labels change.
 pub fn label(bench: &mut Workbench) -> Result<u32, TooManyIslands>
     ensures rest { bench.new ≡ record bench.old {
       labels = (bench.new).labels;
