@@ -1,5 +1,5 @@
 -- Behind a command that tells of a further one the block goes on.
-use Rattle.std.proofs.Common.{◌≡◌, ℕ, ◌<◌, ◌≤◌, ◌+◌, ◌-◌, Bool, true, false, not, List, [], ◌∷◌, length, take, drop, reverse, get_or, Option, Some, None, Result, Ok, Err, IfOk, IfSome, MatchResult, ◌==◌, nat_lt, nat_eq, refl, ap, sym, ◌∙◌, arith, length-take-le}
+use Rattle.std.proofs.Common.{◌≡◌, ℕ, ◌<◌, ◌≤◌, ◌+◌, ◌-◌, Bool, true, false, not, List, [], ◌∷◌, length, take, drop, reverse, get_or, Option, Some, None, Result, Ok, Err, IfOk, IfSome, MatchResult, ◌==◌, nat_lt, nat_eq, ◌⊎◌, ⊎_elim, inl, inr, refl, ap, sym, ◌∙◌, arith, length-take-le}
 use Rattle.std.specs.List.{position_or_len}
 use Rattle.std.proofs.lemmas.List.{get_or-reverse, get_or-drop, get_or-take, length-reverse, length-drop, drop-drop}
 use Rattle.std.proofs.lemmas.List.Sums.{position_or_len_is}
@@ -66,10 +66,10 @@ closed_behind rest m c h =
 closed_some : (at : ℕ) (rest : List ℕ) → IsClosed rest → (bytes : List ℕ) → rest ≡ drop at bytes → GoesOn at bytes
 closed_some at rest c bytes e = rw (sym e, of_closed at rest c) refl
 
-some_is_some : (at : ℕ) (rest : List ℕ) (c : Span) → block_command at rest ≡ Some c → IsClosed rest
+pub some_is_some : (at : ℕ) (rest : List ℕ) (c : Span) → block_command at rest ≡ Some c → IsClosed rest
 some_is_some at rest c e = closed_of at rest (rw e refl)
 
-block_goes_on : (bytes : List ℕ) (at : ℕ) (rest : List ℕ) (c : Span) → rest ≡ drop at bytes → block_command at rest ≡ Some c → c.inside ≡ true → GoesOn c.next bytes
+pub block_goes_on : (bytes : List ℕ) (at : ℕ) (rest : List ℕ) (c : Span) → rest ≡ drop at bytes → block_command at rest ≡ Some c → c.inside ≡ true → GoesOn c.next bytes
 block_goes_on bytes at rest c from e t =
     let closed = some_is_some at rest c e in
     let block = block_rest rest in
@@ -81,29 +81,37 @@ block_goes_on bytes at rest c from e t =
     let there : drop m rest ≡ drop (at + m) bytes = ap (drop m) from ∙ drop-drop m at bytes in
     rw (sym next, sym place) (closed_some (at + m) (drop m rest) (closed_behind rest m closed (grind (arith, more))) bytes there)
 
-word_stops : {P : Type 0} (at : ℕ) (rest : List ℕ) (c : Span) → word_command at rest ≡ Some c → c.inside ≡ true → P
-word_stops at rest c e t =
-    let g = guarded (nat_eq (way_to star rest) (length rest)) (record { from = at; to = at + way_to star rest; extended = false; inside = false; next = at + way_to star rest + 1 }) c e in
-    let f : false ≡ true = ap (λ s. s.inside) g.1 ∙ t in
-    absurd (grind (arith, f))
+-- where a command of a block is found
+pub record IsInBlock (bytes : List ℕ) (c : Span) : Type 0 where
+  pub place : ℕ
+  pub is : block_command place (drop place bytes) ≡ Some c
 
-outside_goes_on : (bytes : List ℕ) (at : ℕ) (rest : List ℕ) (c : Span) → rest ≡ drop at bytes → outside_command at rest ≡ Ok (Some c) → c.inside ≡ true → GoesOn c.next bytes
-outside_goes_on bytes at [] c from e t = absurd (grind (arith, e))
-outside_goes_on bytes at (b ∷ rest) c from e t = by_bool (b == percent)
+word_stops : (at : ℕ) (rest : List ℕ) (c : Span) → word_command at rest ≡ Some c → (c.extended ≡ false) × (c.inside ≡ false)
+word_stops at rest c e =
+    let g = guarded (nat_eq (way_to star rest) (length rest)) (record { from = at; to = at + way_to star rest; extended = false; inside = false; next = at + way_to star rest + 1 }) c e in
+    (sym (ap (λ s. s.extended) g.1), sym (ap (λ s. s.inside) g.1))
+
+outside_stands : (bytes : List ℕ) (at : ℕ) (rest : List ℕ) (c : Span) → rest ≡ drop at bytes → outside_command at rest ≡ Ok (Some c) → IsInBlock bytes c ⊎ ((c.extended ≡ false) × (c.inside ≡ false))
+outside_stands bytes at [] c from e = absurd (grind (arith, e))
+outside_stands bytes at (b ∷ rest) c from e = by_bool (b == percent)
     (λ p.
     let block : found_at at (block_command (at + 1) rest) ≡ Ok (Some c) = rw p at e in
     let there : rest ≡ drop (at + 1) bytes = ap (drop 1) from ∙ drop-drop 1 at bytes in
-    block_goes_on bytes (at + 1) rest c there (found_some at (block_command (at + 1) rest) c block) t)
+    inl (record { place = at + 1; is = ap (block_command (at + 1)) (sym there) ∙ found_some at (block_command (at + 1) rest) c block }))
     (λ f.
     let word : found_at at (word_command at (b ∷ rest)) ≡ Ok (Some c) = rw f at e in
-    word_stops at (b ∷ rest) c (found_some at (word_command at (b ∷ rest)) c word) t)
+    inr (word_stops at (b ∷ rest) c (found_some at (word_command at (b ∷ rest)) c word)))
+
+-- a command stands in a block, or is a word
+pub block_or_word : (bytes : List ℕ) (at : ℕ) (inside : Bool) (c : Span) → next_of bytes at inside ≡ Ok (Some c) → IsInBlock bytes c ⊎ ((c.extended ≡ false) × (c.inside ≡ false))
+block_or_word bytes at true c e = inl (record { place = at; is = found_some at (block_command at (drop at bytes)) c e })
+block_or_word bytes at false c e =
+    let breaks = breaks_before (drop at bytes) in
+    outside_stands bytes (at + breaks) (drop breaks (drop at bytes)) c (drop-drop breaks at bytes) e
 
 -- behind a command that tells of a further one the block goes on
-pub goes_on : (bytes : List ℕ) (at : ℕ) (inside : Bool) (c : Span) → next_of bytes at inside ≡ Ok (Some c) → c.inside ≡ true → GoesOn c.next bytes
-goes_on bytes at true c e t = block_goes_on bytes at (drop at bytes) c refl (found_some at (block_command at (drop at bytes)) c e) t
-goes_on bytes at false c e t =
-    let breaks = breaks_before (drop at bytes) in
-    outside_goes_on bytes (at + breaks) (drop breaks (drop at bytes)) c (drop-drop breaks at bytes) e t
+goes_on : (bytes : List ℕ) (at : ℕ) (inside : Bool) (c : Span) → next_of bytes at inside ≡ Ok (Some c) → c.inside ≡ true → GoesOn c.next bytes
+goes_on bytes at inside c e t = ⊎_elim (λ (b : IsInBlock bytes c). block_goes_on bytes b.place (drop b.place bytes) c refl b.is t) (λ (w : (c.extended ≡ false) × (c.inside ≡ false)). let f : false ≡ true = sym w.1 ∙ t in absurd (grind (arith, f))) (block_or_word bytes at inside c e)
 
 -- so does what a search answers
 pub answer_goes_on : (bytes : List ℕ) (at : ℕ) (inside : Bool) (r : Result (Option Span) LexError) → MatchResult r (λ found. next_of bytes at inside ≡ Ok found) (λ e. next_of bytes at inside ≡ Err e.at)

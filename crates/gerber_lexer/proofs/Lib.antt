@@ -4,3 +4,4 @@ pub mod Fronts
 pub mod Further
 pub mod GoesOn
 pub mod TileLaws
+pub mod BlockLaws

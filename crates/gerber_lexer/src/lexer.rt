@@ -2,6 +2,7 @@
 ghost use Rattle.std.specs.Prelude.{◌≡◌, ◌<◌, ◌≤◌, ◌+◌, ◌-◌, ℕ, Bool, true, false, length, take, drop, get_or, reverse, MatchOption, MatchResult, None, Some, Ok, Err, Option, Result, ◌==◌, IfSome, IfOk, ◌&&◌, not, ◌^◌};
 ghost use Rattle.std.specs.List.{position};
 ghost use Rattle.gerber_lexer.specs.Tiles.{CommandsTile, CommandsWithin};
+ghost use Rattle.gerber_lexer.specs.Blocks.{BlocksHold, FoundInside, OnlyUnclosedFail};
 ghost use Rattle.gerber_lexer.specs.Cut.{is_break, way_to, breaks_before, breaks_behind, trimmed, ends_in_star, is_macro, first_byte, block_rest, way_to_end, block_command, word_command, command_in, outside_command, percent, IsWithin, found_at, next_of, GoesOn};
 ghost use Rattle.std.specs.Option.{IsSome};
 
@@ -321,4 +322,13 @@ pub fn commands_tile()
 /// Commands stand within the bytes, each behind the one before it.
 pub fn commands_within()
     ensures { CommandsWithin }
+{}
+
+/// In a command of a block stands no percent sign, and inside it no star but in a macro's; the block goes on exactly where a byte
+/// that is no line break stands before its percent sign. Where it goes on there is a command. No search fails but at a command or
+/// a block that isn't closed, or at a block that doesn't end in a star.
+pub fn blocks_hold()
+    ensures blocks { BlocksHold }
+    ensures inside { FoundInside }
+    ensures faults { OnlyUnclosedFail }
 {}

@@ -5,4 +5,4 @@
 
 mod lexer;
 
-pub use lexer::{LexError, Span, commands_tile, commands_within, next_command};
+pub use lexer::{LexError, Span, blocks_hold, commands_tile, commands_within, next_command};
