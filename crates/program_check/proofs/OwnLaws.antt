@@ -34,9 +34,9 @@ use Rattle.mill_plan.proofs.SweptLaws.{at_itself, visited_beside}
 use Rattle.mill_plan.proofs.UnitLaws.{unscaled, moved_on}
 use Rattle.program_check.specs.Cutters.{IsCutter}
 use Rattle.program_check.specs.Deep.{IsDeepOver}
-use Rattle.program_check.specs.Marks.{IsPassedBy, IsReached, IsMarked, ArePrinted}
+use Rattle.program_check.specs.Marks.{IsPassedBy, IsReached, IsMarked, IsWhollySweptBy, ArePrinted}
 use Rattle.program_check.specs.Own.{IsOwn, OwnProgram, OwnClearLaw, OwnMarkLaw, OwnChainLaw, OwnFrameLaw, OwnLaw, MarksSwept}
-use Rattle.program_check.proofs.SoundLaws.{bite_nonneg}
+use Rattle.program_check.proofs.SoundLaws.{bite_nonneg, reached_swept}
 
 -- ---- low moves
 
@@ -84,6 +84,10 @@ swept_reached k Deep moves Visited c ok passes swept =
 
     none : (x : ℤ) → pos 0 +ℤ x ≡ x
     none x = omega (arith, ints)
+
+pub passed_swept : (k : Cutting) (Deep : Move → Type 0) (moves : List Move) (Visited : Cell → Type 0) (c : Cell) → IsCutter k → ((v : Cell) → Visited v → IsPassedBy Deep moves (centre_of k.pitch v) (pos 0))
+    → IsSwept (sweep_of k) Visited c → IsWhollySweptBy k Deep moves c
+passed_swept k Deep moves Visited c ok passes swept = reached_swept k Deep moves c ok (swept_reached k Deep moves Visited c ok passes swept)
 
 pub own_mark_holds : OwnMarkLaw
 own_mark_holds k surface work moves visited c = swept_reached k (IsDeepOver surface work) moves (λ v. visited v ≡ true) c

@@ -24,7 +24,7 @@ use Rattle.mill_plan.proofs.PointLaws.{near_centre}
 use Rattle.mill_plan.proofs.UnitLaws.{unscaled, upscaled, moved_on}
 use Rattle.program_check.specs.Cutters.{IsCutter}
 use Rattle.program_check.specs.Deep.{IsDeepOver}
-use Rattle.program_check.specs.Marks.{IsMarked, IsWhollySweptBy}
+use Rattle.program_check.specs.Marks.{IsReached, IsMarked, IsWhollySweptBy}
 use Rattle.program_check.specs.Sound.{ClearLaw, MarkLaw, PartsLaw, UnitLaw}
 
 -- the cuttings of jobs are such
@@ -48,9 +48,8 @@ clear_holds k painted safe moves ok clear q dark move there low swept =
 back : (a b : ℤ) → (a -ℤ b) +ℤ b ≡ a
 back a b = ring (a ∷ b ∷ []) (add (sub (var 0) (var 1)) (var 1)) (var 0) refl
 
-pub marked_swept : (k : Cutting) (f : Frame) (Deep : Move → Type 0) (moves : List Move) (c : Cell) → IsCutter k → IsMarked k f Deep moves c → IsWhollySweptBy k Deep moves c
-marked_swept k f Deep moves c ok marked q inside =
-    let r = marked.1 in
+pub reached_swept : (k : Cutting) (Deep : Move → Type 0) (moves : List Move) (c : Cell) → IsCutter k → IsReached k Deep moves c → IsWhollySweptBy k Deep moves c
+reached_swept k Deep moves c ok r q inside =
     let h : ℤ = half_diagonal_of k.pitch in
     let short : IsReachedFrom h (centre_of k.pitch c) q = subst (λ (d : Cell). IsReachedFrom h (centre_of k.pitch d) q) inside (in_cell k.pitch h q ok.pitch ok.diagonal) in (
       r.0,
@@ -58,6 +57,9 @@ marked_swept k f Deep moves c ok marked q inside =
       r.2,
       subst (λ (d : ℤ). Sweeps r.0 q d) (back k.radius h) (moved_on r.0 (centre_of k.pitch c) q (k.radius -ℤ h) h (sub_nonneg h k.radius ok.fine) (diagonal_nonneg k.pitch) short r.3),
     )
+
+pub marked_swept : (k : Cutting) (f : Frame) (Deep : Move → Type 0) (moves : List Move) (c : Cell) → IsCutter k → IsMarked k f Deep moves c → IsWhollySweptBy k Deep moves c
+marked_swept k f Deep moves c ok marked = reached_swept k Deep moves c ok marked.1
 
 pub mark_holds : MarkLaw
 mark_holds k f surface work moves c = marked_swept k f (IsDeepOver surface work) moves c

@@ -1,5 +1,5 @@
 -- What the run of a side's levelled program does.
-use Rattle.std.proofs.Common.{◌≡◌, ℕ, ◌<◌, ℤ, pos, ◌+ℤ◌, ◌-ℤ◌, ◌*ℤ◌, ◌≤ℤ◌, ◌<ℤ◌, Bool, true, List, [], ◌∷◌, ◌++◌, map, Some, refl, sym, ap, subst, ◌∙◌, arith}
+use Rattle.std.proofs.Common.{◌≡◌, ℕ, ◌<◌, ℤ, pos, ◌+ℤ◌, ◌-ℤ◌, ◌*ℤ◌, ◌≤ℤ◌, ◌<ℤ◌, Bool, true, List, [], ◌∷◌, ◌++◌, map, refl, sym, ap, subst, ◌∙◌, arith}
 use Rattle.std.specs.List.{Contains}
 use Rattle.std.proofs.lemmas.Int.{ints, by_lt_z}
 use Rattle.std.proofs.lemmas.List.Elements.{All-contains}
@@ -10,11 +10,8 @@ use Rattle.board_base.specs.declared.places.Cell.{Cell}
 use Rattle.board_base.specs.declared.places.Move.{Move}
 use Rattle.board_base.specs.Lattice.{IsPitch, IsHalfDiagonal, centre_of, dist2, half_diagonal_of}
 use Rattle.board_base.specs.Near.{near_of}
-use Rattle.cell_grid.specs.declared.frames.Frame.{Frame}
-use Rattle.cell_grid.proofs.CellsLaws.{in_frame_true}
 use Rattle.cell_sets.specs.Barrier.{IsPast}
 use Rattle.cell_sets.specs.Islands.{AreIslands}
-use Rattle.cell_sets.specs.Sweep.{IsSwept}
 use Rattle.cell_sets.proofs.Barriers.{refl_le}
 use Rattle.cell_sets.proofs.Counts.{numbered_kept}
 use Rattle.cell_sets.proofs.Links.{linked_over}
@@ -27,7 +24,7 @@ use Rattle.shape_parts.specs.declared.shape.Painted.{Painted}
 use Rattle.rs274_sim.specs.Cutter.{nanometre, scaled, under, width_of, IsLow, Sweeps}
 use Rattle.mill_program.specs.declared.probes.ProbeGrid.{ProbeGrid}
 use Rattle.mill_program.specs.Moves.{unnumbered}
-use Rattle.mill_program.specs.Probes.{IsGrid, FitGrid, surface}
+use Rattle.mill_program.specs.Probes.{IsGrid, FitGrid}
 use Rattle.levelling.specs.Pieces.{levelled}
 use Rattle.grid_runs.specs.Moves.{moves_over}
 use Rattle.grid_runs.specs.RunLaw.{GridRunLaw}
@@ -47,8 +44,8 @@ use Rattle.program_check.specs.Hits.{IsClear}
 use Rattle.program_check.specs.Marks.{IsPassedBy, IsWhollySweptBy, PartsOthersBy}
 use Rattle.program_check.specs.Own.{Follows, MarksSwept, IsOwn}
 use Rattle.program_check.proofs.AlongLaws.{along_holds}
-use Rattle.program_check.proofs.OwnLaws.{own_clear_holds, own_mark_holds, past_allowed}
-use Rattle.program_check.proofs.SoundLaws.{clear_holds, marked_swept}
+use Rattle.program_check.proofs.OwnLaws.{own_clear_holds, passed_swept, past_allowed}
+use Rattle.program_check.proofs.SoundLaws.{clear_holds}
 use Rattle.side_runs.specs.OwnSide.{AreSideTests}
 use Rattle.side_runs.proofs.FrameLaws.{kept_inside}
 use Rattle.side_runs.proofs.NumberLaws.{one_numbering}
@@ -220,16 +217,6 @@ module _ (job : Job) (painted : List Painted) (plan : Isolation) (ok : IsSideJob
         clear : IsClear k painted job.zsafe moves
         clear = own_clear_holds k painted job.zsafe moves cuts (λ move there low q r r_in swept. (let f = own.follows move there low q r r_in swept in (f.0, (own.allowed_are f.0).0 f.1, f.2)))
 
-        -- what visited cells sweep is wholly swept, seen from a frame that has the cell
-        wholly : (c : Cell) → IsSwept (sweep_of k) (λ v. visited v ≡ true) c → IsWhollySweptBy k Deep moves c
-        wholly c swept =
-            let around : Frame = record { pitch = k.pitch; i0 = c.i; j0 = c.j; width = 1; height = 1 } in
-            marked_swept k around Deep moves c cuts
-            (in_frame_true around c (record { column = record { low = refl_le c.i; high = next c.i }; row = record { low = refl_le c.j; high = next c.j } }), own_mark_holds k (surface (Some g) answers) job.zwork moves visited c cuts own.passes swept)
-          where
-            next : (v : ℤ) → v <ℤ (v +ℤ pos 1)
-            next v = omega (arith, ints)
-
         parts : (number : Cell → ℕ) (count : ℕ) → AreIslands (kept_by k painted) number count → PartsOthersBy k Deep number plan.groups.items moves
         parts number count islands u v su sv ne joined =
             let one = one_numbering (kept_by k painted) plan.frame (kept_inside k painted plan.frame milling.cutting i.framed) number i.number count plan.islands islands i.islands in
@@ -238,7 +225,7 @@ module _ (job : Job) (painted : List Painted) (plan : Isolation) (ok : IsSideJob
             let marks : MarksSwept (sweep_of k) allowed visited plan.frame (IsWhollySweptBy k Deep moves) = record {
               inside = own.inside;
               outside = own.outside;
-              unmarked = λ c inside free swept. free (wholly c swept);
+              unmarked = λ c inside free swept. free (passed_swept k Deep moves (λ v. visited v ≡ true) c cuts own.passes swept);
             } in
             let past = past_allowed (sweep_of k) allowed visited (kept_by k painted) plan.frame (IsWhollySweptBy k Deep moves) own.barrier marks joined.0 joined.1 on joined.2.2 in
             (pair_law_holds (IsLeft k painted) number plan.groups.items listed u v su sv ne).1 (
@@ -252,12 +239,13 @@ module _ (job : Job) (painted : List Painted) (plan : Isolation) (ok : IsSideJob
             )
 
         pub mills_over : MillsOver job painted plan g answers moves
+        unfolding side_cutting
         mills_over = record {
           own = record { allowed = allowed; visited = visited; tests = tests; own = own; along = follows_visited };
           clear = clear;
           no_bite = clear_holds k painted job.zsafe moves cuts clear;
           passes = passes;
-          swept = λ c reached. wholly c (record { from = reached.from; member = (tests.visited_are reached.from).1 reached.member; within = reached.within });
+          swept = λ c. passed_swept k Deep moves (IsVisited k painted) c cuts passed;
           parts = parts;
         }
 
