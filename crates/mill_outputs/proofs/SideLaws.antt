@@ -20,9 +20,11 @@ use Rattle.mill_plan.specs.Cutting.{side_cutting}
 use Rattle.mill_plan.specs.Mills.{IsProgramOf}
 use Rattle.mill_plan.specs.Cuts.{all_of}
 use Rattle.mill_plan.specs.Isolated.{IsIsolationOf}
+use Rattle.program_check.proofs.OwnLaws.{passed_swept}
 use Rattle.side_runs.specs.Alone.{alone}
-use Rattle.side_runs.specs.Sides.{AreApart, NoBiteIn, MillsTiles, TiledSideLaw}
+use Rattle.side_runs.specs.Sides.{AreApart, IsVisitedCopy, NoBiteIn, MillsTiles, TiledSideLaw}
 use Rattle.side_runs.specs.SideStrokes.{wants_along, TiledStrokesLaw}
+use Rattle.side_runs.proofs.SideLaws.{cutter}
 use Rattle.side_runs.proofs.ValueLaws.{words_tiled}
 use Rattle.side_levels.specs.Probed.{IsGridOver}
 use Rattle.side_surfaces.specs.Runs.{InReach, RunsToOver, RunsOver}
@@ -32,7 +34,7 @@ use Rattle.side_surfaces.specs.Flat.{FlatSideLaw}
 use Rattle.side_surfaces.specs.Levelled.{IsLevelledSide, LevelledSidesLaw}
 use Rattle.mill_outputs.specs.Written.{tiles_by}
 use Rattle.mill_outputs.specs.Mill.{program_text}
-use Rattle.mill_outputs.specs.Headline.{milled_side, IsTextOf, NeverBites, PassesVisited, FollowsWalks, Clears, Counts, Separates}
+use Rattle.mill_outputs.specs.Headline.{milled_side, IsTextOf, NeverBites, PassesVisited, SweepsVisited, FollowsWalks, Clears, Counts, Separates}
 use Rattle.mill_outputs.proofs.TileLaws.{IsTiled, in_text}
 use Rattle.mill_outputs.proofs.TextLaws.{text_runs_over, flat_runs, runs_weaker}
 
@@ -152,6 +154,10 @@ module _ (laws : SideRunLaws) (job : Job) (tiles : List Tile) (image : List Pain
 
   pub side_passes : PassesVisited (milled_side job tiles image plan q)
   side_passes = weaker (PassesBy job image tiles q.grid) (λ answers moves mills. mills.passes)
+
+  pub side_sweeps : SweepsVisited (milled_side job tiles image plan q)
+  unfolding side_cutting
+  side_sweeps = weaker _ (λ answers moves mills c. passed_swept (side_cutting job) (IsDeepBy job q.grid answers) moves (IsVisitedCopy (side_cutting job) image tiles) c (cutter job image plan s.job_ok s.isolates) (λ v. (mills.passes v).1))
 
   pub side_follows : FollowsWalks (milled_side job tiles image plan q)
   side_follows = record {

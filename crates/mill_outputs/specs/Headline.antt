@@ -7,6 +7,7 @@ use Rattle.board_base.specs.declared.places.Cell.{Cell}
 use Rattle.board_base.specs.declared.places.Move.{Move}
 use Rattle.cell_sets.specs.Count.{IsCount}
 use Rattle.cell_sets.specs.Islands.{AreIslands}
+use Rattle.cell_sets.specs.Sweep.{IsSwept}
 use Rattle.shape_parts.specs.declared.shape.Painted.{Painted}
 use Rattle.rs274_sim.specs.Cutter.{NoBite, nanometre}
 use Rattle.rs274_sim.specs.Runs.{Runs}
@@ -19,7 +20,7 @@ use Rattle.drill_program.specs.Tiled.{AreDrilledIn}
 use Rattle.job_file.specs.declared.job.Job.{Job}
 use Rattle.job_file.specs.Checks.{radius_of}
 use Rattle.mill_plan.specs.declared.isolation.Isolation.{Isolation}
-use Rattle.mill_plan.specs.Cutting.{kept_by, side_cutting, IsVisited}
+use Rattle.mill_plan.specs.Cutting.{kept_by, sweep_of, side_cutting, IsVisited}
 use Rattle.mill_plan.specs.Frame.{IsFrameOf}
 use Rattle.mill_plan.specs.Mills.{IsProgramOf}
 use Rattle.mill_plan.specs.Cuts.{AreSideWalks, all_of}
@@ -30,7 +31,8 @@ use Rattle.outline_plan.specs.CutOut.{Outlines, CutsOut}
 use Rattle.endings.specs.Outputs.{Output, all_stored}
 use Rattle.endings.specs.Reads.{held_in}
 use Rattle.mill_inputs.specs.Accepted.{Accepts, accepted}
-use Rattle.side_runs.specs.Sides.{AreApart, NoBiteIn}
+use Rattle.program_check.specs.Marks.{IsWhollySweptBy}
+use Rattle.side_runs.specs.Sides.{AreApart, IsVisitedCopy, NoBiteIn}
 use Rattle.side_levels.specs.Probed.{IsGridOver}
 use Rattle.side_surfaces.specs.Runs.{RunsOver}
 use Rattle.side_surfaces.specs.Sides.{IsDeepBy, PassesBy, PartsBy}
@@ -126,6 +128,12 @@ NeverBites side = RunsOn side (λ answers. NoBiteIn side.job side.image side.til
 -- the program's run passes the copies of the visited cells in each tile at its depth over the surface, and no others
 abbrev pub PassesVisited : Side → Type 0
 PassesVisited side = RunsOn side (PassesBy side.job side.image side.tiles side.grid)
+
+-- the program's run sweeps wholly each cell that the copies of the visited cells sweep
+abbrev pub SweepsVisited : Side → Type 0
+SweepsVisited side =
+    RunsOn side (λ answers moves. (c : Cell) → IsSwept (sweep_of (side_cutting side.job)) (IsVisitedCopy (side_cutting side.job) side.image side.tiles) c
+    → IsWhollySweptBy (side_cutting side.job) (IsDeepBy side.job side.grid answers) moves c)
 
 -- The strokes of the program's run are, tile after tile, the walks of each pass and then the clearing runs, in their order,
 -- each corner at exactly its depth over the surface, and nothing else is low; the report's count is that of the walks.

@@ -1,6 +1,6 @@
 // What Done means, and that what is made is one.
 ghost use Rattle.mill_outputs.specs.Done.{AfterDone};
-ghost use Rattle.mill_outputs.specs.Headline.{OfSides, IsTextOf, LevelsFront, NeverBites, PassesVisited, FollowsWalks, Clears, Counts, Separates, OfHoles, DrillsHoles, OfOutline, CutsBoardOut, LeavesBridges};
+ghost use Rattle.mill_outputs.specs.Headline.{OfSides, IsTextOf, LevelsFront, NeverBites, PassesVisited, SweepsVisited, FollowsWalks, Clears, Counts, Separates, OfHoles, DrillsHoles, OfOutline, CutsBoardOut, LeavesBridges};
 ghost use Rattle.mill_outputs.specs.Written.{OneOfEach};
 
 use drill_plan::{few_diameters_law, limits_law, one_plan_law};
@@ -27,6 +27,7 @@ pub fn headline_law()
     ensures levelled { AfterDone LevelsFront }
     ensures no_bite { AfterDone (OfSides NeverBites) }
     ensures visited { AfterDone (OfSides PassesVisited) }
+    ensures swept { AfterDone (OfSides SweepsVisited) }
     ensures walks { AfterDone (OfSides FollowsWalks) }
     ensures clearing { AfterDone (OfSides Clears) }
     ensures counts { AfterDone (OfSides Counts) }

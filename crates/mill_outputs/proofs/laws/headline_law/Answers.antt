@@ -1,9 +1,9 @@
-use Rattle.mill_outputs.specs.Headline.{IsTextOf, NeverBites, PassesVisited, FollowsWalks, Clears, Counts, Separates, CutsBoardOut, LeavesBridges}
+use Rattle.mill_outputs.specs.Headline.{IsTextOf, NeverBites, PassesVisited, SweepsVisited, FollowsWalks, Clears, Counts, Separates, CutsBoardOut, LeavesBridges}
 use Rattle.mill_outputs.proofs.HeadlineLaws.{sides_after_done, levels_after_done, holes_after_done, outline_after_done}
 use Rattle.mill_outputs.proofs.TileLaws.{TilingLaws}
 use Rattle.mill_outputs.proofs.HoleLaws.{HoleLaws}
 use Rattle.mill_outputs.proofs.BoardLaws.{cuts_board_out, leaves_bridges}
-use Rattle.mill_outputs.proofs.SideLaws.{SideRunLaws, side_text, side_never_bites, side_passes, side_follows, side_clears, side_counts, side_separates}
+use Rattle.mill_outputs.proofs.SideLaws.{SideRunLaws, side_text, side_never_bites, side_passes, side_sweeps, side_follows, side_clears, side_counts, side_separates}
 use Rattle.mill_outputs.proofs.laws.headline_law.Goals as goal
 
 pub returns-clause-words : goal.returns-clause-words
@@ -65,6 +65,21 @@ returns-clause-visited c =
     } in
     let sides : SideRunLaws = record { spelled = c.spelling_over_law.ensures; side = c.tiled_side_law.ensures; strokes = c.tiled_strokes_law.ensures; flat = c.flat_side_law.ensures; levels = c.levelled_sides_law.ensures } in
     sides_after_done tiling PassesVisited (side_passes sides)
+
+pub returns-clause-swept : goal.returns-clause-swept
+returns-clause-swept c =
+    let tiling : TilingLaws = record {
+      value = c.tile_value_law.ensures;
+      shifts = c.shifts_law.ensures.cells;
+      some = c.shifts_law.ensures.some;
+      program = c.tiled_program_law.ensures;
+      apart = c.apart_law.ensures;
+      one_shift = c.shifts_law.ensures.one;
+      one_tile = c.one_tile_law.ensures;
+      one = c.levelled_sides_law.ensures.tiles;
+    } in
+    let sides : SideRunLaws = record { spelled = c.spelling_over_law.ensures; side = c.tiled_side_law.ensures; strokes = c.tiled_strokes_law.ensures; flat = c.flat_side_law.ensures; levels = c.levelled_sides_law.ensures } in
+    sides_after_done tiling SweepsVisited (side_sweeps sides)
 
 pub returns-clause-walks : goal.returns-clause-walks
 returns-clause-walks c =
