@@ -52,14 +52,19 @@ lines_failed lines m result before between now first rose_first more (inl (is, i
 lines_failed lines m result before between now first rose_first more (inr (is, same)) =
     inr (is, (m, 0, same ∙ first ∙ ap (λ l. appended l before.text) (sym (append-nil (take m lines)))))
 
--- lines found no memory, and the line of want of memory was put
+-- lines found no memory behind some of them, and the line of want of memory was put
+pub lines_stopped : (lines : List ℕ) (m : ℕ) (result : Status) (before between now : SinkState) → between.text ≡ appended (take m lines) before.text → RefusalTold Memory result between now → BrokeOff lines result before now
+lines_stopped lines m result before between now first (inl (is, inl whole)) =
+    inr (is, (m, length (line_of Memory), after_first _ _ before.text between.text now.text first (whole ∙ ap (λ l. appended l between.text) (sym (take-length (line_of Memory))))))
+lines_stopped lines m result before between now first (inl (is, inr part)) =
+    inr (is, (m, part.1.0, after_first _ _ before.text between.text now.text first part.1.1))
+lines_stopped lines m result before between now first (inr (is, same)) =
+    inr (is, (m, 0, same ∙ first ∙ ap (λ l. appended l before.text) (sym (append-nil (take m lines)))))
+
+-- none of the lines was put
 pub lines_lost : (lines : List ℕ) (result : Status) (before between now : SinkState) → between.text ≡ before.text → RefusalTold Memory result between now → BrokeOff lines result before now
-lines_lost lines result before between now first (inl (is, inl whole)) =
-    inr (is, (0, length (line_of Memory), whole ∙ ap (appended (line_of Memory)) first ∙ ap (λ l. appended l before.text) (sym (take-length (line_of Memory)))))
-lines_lost lines result before between now first (inl (is, inr part)) =
-    inr (is, (0, part.1.0, part.1.1 ∙ ap (appended (take part.1.0 (line_of Memory))) first))
-lines_lost lines result before between now first (inr (is, same)) =
-    inr (is, (0, 0, same ∙ first ∙ sym (appended_nothing before.text)))
+lines_lost lines result before between now first told =
+    lines_stopped lines 0 result before between now (first ∙ sym (appended_nothing before.text)) told
 
 -- lines that broke off, with more behind them
 longer_prefix : (lines more : List ℕ) (m : ℕ) → take (length (take m lines)) (lines ++ more) ≡ take m lines

@@ -1,5 +1,5 @@
 // The lines of a command.
-ghost use Rattle.std.specs.Prelude.{◌≡◌, ◌⊎◌, ◌≤◌, ◌≢◌, IsErrOf, OnOk};
+ghost use Rattle.std.specs.Prelude.{◌≡◌, ◌⊎◌, ◌≤◌, ◌≢◌, IsErrOf, OnOk, OnErr};
 ghost use Rattle.board_base.specs.Counts.{Rose};
 ghost use Rattle.board_base.specs.Sink.{appended, AppendsPrefix};
 ghost use Rattle.endings.specs.Lines.{line_of};
@@ -53,13 +53,33 @@ pub fn tell<K: Sink>(alloc: Global, status: Status, out: &mut K) -> Status
     }
 }
 
-/// Puts the lines that a command made and then that of its status, and answers what the status then is.
+// Puts lines one by one, each with its end.
+fn put_lines<K: Sink>(lines: &[u8], out: &mut K) -> Result<(), SinkError>
+    ensures faults { (K.state out.old).faults ≤ (K.state out.new).faults }
+    ensures ok { OnOk result ((K.state out.new).text ≡ appended lines.now (K.state out.old).text) }
+    ensures failed { IsErrOf result SinkError.Failed → Rose (K.state out.old).faults (K.state out.new).faults }
+    ensures prefix { OnErr result (AppendsPrefix lines.now (K.state out.old).text (K.state out.new).text) }
+{
+    let mut start = 0;
+    for at in 0..lines.len() {
+        if lines[at] == b'\n' {
+            out.put(&lines[start..=at])?;
+            start = at + 1;
+        }
+    }
+    if start == lines.len() {
+        return Ok(());
+    }
+    out.put(&lines[start..])
+}
+
+/// Puts the lines that a command made, one by one, and then that of its status, and answers what the status then is.
 pub fn tell_lines<K: Sink>(alloc: Global, lines: &[u8], status: Status, out: &mut K) -> Status
     ensures status { BecomesBehind status result (K.state out.old) (K.state out.new) }
     ensures told { ToldBehind lines.now status result (K.state out.old) (K.state out.new) }
 {
     let fault = Status::WriteFault { role: Role::Lines };
-    match out.put(lines) {
+    match put_lines(lines, out) {
         Ok(()) => tell(alloc, status, out),
         Err(SinkError::Failed) => refuse(alloc, fault, out),
         Err(SinkError::Memory) => refuse(alloc, Status::Memory, out),
