@@ -1,9 +1,9 @@
 // What a check refuses, in which order.
-use crate::commands::{carried_out, two_discs};
 use board_base::MemoryShelf;
 use mill_top::Status;
 use std::alloc::Global;
 use std::test::Fail;
+use trial_runs::{carried_out, two_discs};
 
 // Words, and the number of the one that is refused.
 const WRONG_WORDS: [(&[&str], u32); 12] = [

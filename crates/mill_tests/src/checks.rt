@@ -1,12 +1,14 @@
 // Programs that are checked against a layer, as `mill` wrote them, edited by hand, and by other tools.
-use crate::boards::{JOINED_REGIONS, NEAR_DISCS, SEPARATED_REGIONS, TWO_DISCS};
-use crate::commands::{carried_out, shelf_with, two_discs, with_a_put_that_fails};
 use crate::sides::{CUTS_OF_TWO_DISCS, FINE, FOOT, HEAD, USUAL};
 use crate::simulations::FOUR_PROBES;
 use board_base::{MemoryShelf, Role};
 use mill_top::{NgcOrSim, SimFault, Status};
 use std::alloc::Global;
 use std::test::Fail;
+use trial_runs::{
+    JOINED_REGIONS, NEAR_DISCS, SEPARATED_REGIONS, TWO_DISCS, carried_out, shelf_with, two_discs,
+    with_a_put_that_fails,
+};
 
 // The words of a check of two discs.
 const CHECK: [&str; 9] = [

@@ -2,12 +2,12 @@
 ghost use Rattle.std.specs.Prelude.{◌≤◌, length, IfOk};
 ghost use Rattle.path_order.specs.Orders.{ArePlaces};
 
-use crate::commands::carried_out;
 use board_base::{MemoryShelf, Point};
 use mill_top::Status;
 use path_order::improve;
 use std::alloc::{AllocError, Global};
 use std::test::Fail;
+use trial_runs::carried_out;
 
 // Plated and unplated holes and slots in one file: with points, and with digits whose leading or trailing zeros are left
 // out.

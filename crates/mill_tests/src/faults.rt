@@ -1,10 +1,9 @@
 // Files without an image, and reads, writes and puts that fail.
-use crate::boards::TWO_DISCS;
-use crate::commands::{WORDS, carried_out, shelf_with, two_discs, with_a_put_that_fails};
 use board_base::{MemoryShelf, Role};
 use macro_eval::MacroFault;
 use mill_top::{GerberError, GerberKind, Status};
 use std::test::Fail;
+use trial_runs::{TWO_DISCS, WORDS, carried_out, shelf_with, two_discs, with_a_put_that_fails};
 
 // A file without an image, where it is refused, and the line.
 const REFUSED: [(&[u8], GerberKind, usize, &str); 6] = [

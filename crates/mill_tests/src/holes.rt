@@ -1,9 +1,9 @@
 // Boards that are drilled.
-use crate::commands::carried_out;
 use board_base::MemoryShelf;
 use mill_top::{DrillError, DrillKind, LimitHit, Status};
 use std::alloc::Global;
 use std::test::Fail;
+use trial_runs::carried_out;
 
 // Two holes, one of them written twice, and a slot that is routed.
 pub const HOLES_AND_A_ROUTED_SLOT: &str =

@@ -1,10 +1,9 @@
 // Fronts that follow the surface of the board.
-use crate::boards::{ONE_DISC, TWO_DISCS};
-use crate::commands::{WORDS, carried_out, shelf_with};
 use board_base::MemoryShelf;
 use mill_top::{LimitHit, Status};
 use std::alloc::Global;
 use std::test::Fail;
+use trial_runs::{ONE_DISC, TWO_DISCS, WORDS, carried_out, shelf_with};
 
 // One disc over two by two probes, 1.2 mm from one another, with each move in pieces of one cell.
 const LEVELLED_DISC: &str = "G17 G21 G61 G90 G94\n\

@@ -4,13 +4,9 @@
 #![tactic(auto)]
 
 #[cfg(test)]
-mod boards;
-#[cfg(test)]
 mod check_refusals;
 #[cfg(test)]
 mod checks;
-#[cfg(test)]
-mod commands;
 #[cfg(test)]
 mod drill_files;
 #[cfg(test)]

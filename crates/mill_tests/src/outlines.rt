@@ -1,9 +1,9 @@
 // Boards that are cut out.
-use crate::commands::carried_out;
 use board_base::{MemoryShelf, Point};
 use mill_top::{LimitHit, OutlineError, Status};
 use std::alloc::Global;
 use std::test::Fail;
+use trial_runs::carried_out;
 
 // A square of 10 mm, and a cut-out of 6 by 2 mm in it.
 const SQUARE: &str = "%FSLAX46Y46*%\n%MOMM*%\n%ADD10C,0.100000*%\nD10*\nX0Y0D02*\nX10000000D01*\n\

@@ -1,10 +1,9 @@
 // Files that are cut off: each is refused until its end stands there.
-use crate::boards::TRACK;
-use crate::commands::carried_out;
 use crate::holes::HOLES_AND_A_ROUTED_SLOT;
 use board_base::MemoryShelf;
 use mill_top::Status;
 use std::test::Fail;
+use trial_runs::{TRACK, carried_out};
 
 const LAYER: [&str; 4] = ["mill", "-", "--front=f.txt", "--pitch=0.1"];
 

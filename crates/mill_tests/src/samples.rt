@@ -1,8 +1,8 @@
 // Sample boards.
-use crate::commands::carried_out;
 use board_base::MemoryShelf;
 use mill_top::Status;
 use std::test::Fail;
+use trial_runs::carried_out;
 
 // A number of pads, and the line of their board: one pad, five with two tracks, and 200 with 80.
 const BOARDS: [(&str, &str); 3] = [

@@ -1,8 +1,10 @@
 // Sides that are milled: programs and reports.
-use crate::boards::*;
-use crate::commands::{WORDS, carried_out, shelf_with, two_discs};
 use mill_top::Status;
 use std::test::Fail;
+use trial_runs::{
+    CONTOUR_THROUGH_A_CORNER, HOLE_WITH_A_LONE_PAD, JOINED_REGIONS, NEAR_DISCS, ONE_DISC, POINT,
+    SEPARATED_REGIONS, TRACK, TWO_DISCS, WORDS, carried_out, shelf_with, two_discs,
+};
 
 /// The pitch, the diameter and the tolerance of some commands.
 pub const USUAL: [&str; 3] = ["--pitch=0.2", "--mill-diameters=0.4", "--tolerance=0.14"];

@@ -1,10 +1,9 @@
 // A board with copper, a hole and an outline, whose reads, writes and puts fail in turn.
-use crate::boards::TWO_DISCS;
-use crate::commands::{carried_out, with_a_put_that_fails};
 use board_base::{MemoryShelf, Role};
 use mill_top::Status;
 use std::alloc::Global;
 use std::test::Fail;
+use trial_runs::{TWO_DISCS, carried_out, with_a_put_that_fails};
 
 const JOB: &[u8] =
     b"front=a.gbr\ndrill=d.drl\noutline=o.gbr\npitch=0.2\nmill-diameters=0.4\ntolerance=0.14\n";

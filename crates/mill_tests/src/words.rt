@@ -1,7 +1,7 @@
 // Words outside the grammar, and jobs that are refused.
-use crate::commands::{WORDS, carried_out, two_discs};
 use mill_top::{JobError, JobKind, Status};
 use std::test::Fail;
+use trial_runs::{WORDS, carried_out, two_discs};
 
 // Words, and the number of the one that is refused.
 const WRONG_WORDS: [(&[&str], u32); 9] = [
