@@ -1,0 +1,10 @@
+//! Tests of inputs that are cut off, of devices that fail and of watchers that object, as tables. Nothing is built on
+//! this crate.
+#![tactic(auto)]
+
+#[cfg(test)]
+mod cut_off;
+#[cfg(test)]
+mod devices;
+#[cfg(test)]
+mod objections;
