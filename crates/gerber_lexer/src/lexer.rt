@@ -7,6 +7,7 @@ ghost use Rattle.gerber_lexer.specs.Cut.{is_break, way_to, breaks_before, breaks
 ghost use Rattle.std.specs.Option.{IsSome};
 
 use text_cut::position_of;
+use thiserror::Error;
 
 /// Where a command stands. Offsets are of bytes, from 0.
 #[derive(Clone, Copy, Debug, PartialEq, Eq)]
@@ -24,7 +25,8 @@ pub struct Span {
 }
 
 /// A word command without its star, or a block without its percent sign or its last star.
-#[derive(Clone, Copy, Debug, PartialEq, Eq)]
+#[derive(Clone, Copy, Debug, PartialEq, Eq, Error)]
+#[error("a command or a block that isn't closed at {at}")]
 pub struct LexError {
     /// The offset of the word command's first byte, or of the percent sign that opens the block.
     pub at: usize,
