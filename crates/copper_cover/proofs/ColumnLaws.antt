@@ -1,13 +1,20 @@
 -- The columns of a row, and the segments that miss it.
-use Rattle.std.proofs.Common.{◌≡◌, ℕ, ℤ, pos, ◌+ℤ◌, ◌-ℤ◌, ◌*ℤ◌, ◌≤ℤ◌, ◌<ℤ◌, Bool, true, false, cond, ◌↔◌, refl, sym, ap, subst, ◌∙◌, arith}
+use Rattle.std.proofs.Common.{◌≡◌, ℕ, ℤ, pos, ◌+ℤ◌, ◌-ℤ◌, ◌*ℤ◌, ◌≤ℤ◌, ◌<ℤ◌, Bool, true, false, cond, List, get_or, ◌↔◌, refl, sym, ap, subst, ◌∙◌, arith}
+use Rattle.std.specs.List.{All, list_any}
+use Rattle.std.proofs.lemmas.Bool.{false≢true}
+use Rattle.std.proofs.lemmas.List.Folds.{list_any_none}
 use Rattle.std.proofs.lemmas.Int.{by_lt_z}
 use borrow.Author.Differences.{ints}
-use Rattle.number_laws.proofs.Tests.{by_bool}
+use Rattle.number_laws.proofs.Tests.{by_bool, true_lt, lt_true, lt_false}
 use Rattle.board_base.specs.declared.places.CellBox.{CellBox}
 use Rattle.board_base.specs.declared.places.Point.{Point}
 use Rattle.board_base.specs.Near.{near_of}
 use Rattle.board_base.specs.Lattice.{centre_of, IsInBox}
 use Rattle.board_base.specs.Places.{IsNearPlace, IsNearCoordinate}
+use Rattle.poly_area.specs.declared.edges.Edge.{Edge}
+use Rattle.poly_area.specs.declared.blocks.Block.{Block}
+use Rattle.poly_area.specs.Area.{is_near}
+use Rattle.poly_area.specs.Blocks.{IsWithin}
 use Rattle.poly_area.specs.Rows.{centre_at}
 use Rattle.poly_area.proofs.CellLaws.{cells_law_holds}
 use Rattle.plane_geom.proofs.Axis.{reached_of, axis_low, axis_high, second_part}
@@ -105,3 +112,51 @@ first_near row n q r e = subst IsNearPlace (first_in row ∙ sym e) (r.places 0 
 pub same_centre : (row : Row) (k : ℕ) (q : Point) → q ≡ centre_of row.pitch row.first → centre_at q row.pitch k ≡ centre_in row k
 unfolding east_of
 same_centre row k q e = ap (λ (p : Point). centre_at p row.pitch k) e ∙ cells_law_holds row.pitch row.first k
+
+-- ---- blocks of edges
+
+-- what stands no lower is above a row too, and what stands no higher below it
+over_more : (y d l a : ℤ) → l ≤ℤ a → is_over y d l ≡ true → is_over y d a ≡ true
+unfolding is_over
+over_more y d l a h e = lt_true _ _ (more y d l a h (true_lt _ _ e))
+  where
+    more : (y d l a : ℤ) → l ≤ℤ a → (pos 2 *ℤ y +ℤ d) <ℤ (pos 2 *ℤ l) → (pos 2 *ℤ y +ℤ d) <ℤ (pos 2 *ℤ a)
+    more y d l a h k = omega (arith, ints)
+
+under_more : (y d l a : ℤ) → a ≤ℤ l → is_under y d l ≡ true → is_under y d a ≡ true
+unfolding is_under
+under_more y d l a h e = lt_true _ _ (more y d l a h (true_lt _ _ e))
+  where
+    more : (y d l a : ℤ) → a ≤ℤ l → (pos 2 *ℤ l) <ℤ (pos 2 *ℤ y -ℤ d) → (pos 2 *ℤ a) <ℤ (pos 2 *ℤ y -ℤ d)
+    more y d l a h k = omega (arith, ints)
+
+not_over : (y d l a : ℤ) → pos 0 ≤ℤ d → a ≤ℤ l → is_under y d l ≡ true → is_over y d a ≡ false
+unfolding is_over is_under
+not_over y d l a i h e = lt_false _ _ (less y d l a i h (true_lt _ _ e))
+  where
+    less : (y d l a : ℤ) → pos 0 ≤ℤ d → a ≤ℤ l → (pos 2 *ℤ l) <ℤ (pos 2 *ℤ y -ℤ d) → (pos 2 *ℤ a) ≤ℤ (pos 2 *ℤ y +ℤ d)
+    less y d l a i h k = omega (arith, ints)
+
+-- an edge of a block that misses a row misses it too
+within_misses : (b : Block) (e : Edge) (y d : ℤ) → IsWithin b e → pos 0 ≤ℤ d → misses y d b.low b.high ≡ true → misses y d e.from.y e.to.y ≡ true
+within_misses b e y d w d_in m =
+    pick (is_over y d b.low) (is_over y d b.high) (is_under y d b.low) (is_under y d b.high) m
+    (λ s. both_over (is_over y d e.from.y) (is_over y d e.to.y) _ (over_more y d b.low e.from.y w.from_low s) (over_more y d b.low e.to.y w.to_low s))
+    (λ t. both_under (is_over y d e.from.y) (is_over y d e.to.y) (is_under y d e.from.y) (is_under y d e.to.y) (not_over y d b.high e.from.y d_in w.from_high t) (under_more y d b.high e.from.y w.from_high t)
+    (under_more y d b.high e.to.y w.to_high t))
+  where
+    pick : {P : Type 0} (p r s t : Bool) → cond p r (cond s t false) ≡ true → (p ≡ true → P) → (t ≡ true → P) → P
+    pick true r s t h f g = f refl
+    pick false r true t h f g = g h
+    pick false r false t h f g = absurd (false≢true h)
+
+    both_over : (p r z : Bool) → p ≡ true → r ≡ true → cond p r z ≡ true
+    both_over p r z e f = ap (λ (x : Bool). cond x r z) e ∙ f
+
+    both_under : (p r s t : Bool) → p ≡ false → s ≡ true → t ≡ true → cond p r (cond s t false) ≡ true
+    both_under p r s t e f g = ap (λ (x : Bool). cond x r (cond s t false)) e ∙ ap (λ (x : Bool). cond x t false) f ∙ g
+
+-- so no edge of the block is near a point of the row
+pub none_near : (q : Point) (b : Block) (es : List Edge) (y d : ℤ) → q.y ≡ y → pos 0 ≤ℤ d → All (IsWithin b) es → misses y d b.low b.high ≡ true → list_any (is_near q d) es ≡ false
+none_near q b es y d e d_in w m =
+    list_any_none (is_near q d) es (λ k x l. missed q (get_or es k x).from (get_or es k x).to y d e d_in (within_misses b (get_or es k x) y d (w k x l) d_in m))

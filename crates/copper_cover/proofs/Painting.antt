@@ -1,5 +1,5 @@
 -- Objects painted over the cells of a frame.
-use Rattle.std.proofs.Common.{◌≡◌, ◌⊎◌, inl, inr, ℕ, ◌<◌, ◌≤◌, ◌+◌, ◌-◌, ◌*◌, ℤ, pos, ◌+ℤ◌, ◌-ℤ◌, ◌*ℤ◌, ◌≤ℤ◌, ◌<ℤ◌, unsigned_abs, Bool, true, false, cond, not, ◌&&◌, ◌||◌, ◌↔◌, List, [], ◌∷◌, length, get_or, take, set, Option, Some, None, refl, sym, ap, subst, ◌∙◌, arith, get_or-set_other, get_or-set_same}
+use Rattle.std.proofs.Common.{◌≡◌, ◌⊎◌, inl, inr, ℕ, ◌<◌, ◌≤◌, ◌+◌, ◌-◌, ◌*◌, ℤ, pos, ◌+ℤ◌, ◌-ℤ◌, ◌*ℤ◌, ◌≤ℤ◌, ◌<ℤ◌, Bool, true, false, cond, not, ◌&&◌, ◌||◌, ◌↔◌, List, length, get_or, take, set, Option, Some, None, refl, sym, ap, subst, ◌∙◌, arith, get_or-set_other, get_or-set_same}
 use Rattle.std.proofs.lemmas.List.{length-set}
 use Rattle.std.proofs.lemmas.Bool.{cases_eq, false≢true}
 use Rattle.std.proofs.lemmas.Int.{by_lt_z}
@@ -14,7 +14,7 @@ use Rattle.board_base.specs.Lattice.{IsInBox, centre_of, half_diagonal_of}
 use Rattle.board_base.proofs.LatticeLaws.{diagonal_nonneg}
 use Rattle.cell_grid.specs.declared.frames.Frame.{Frame}
 use Rattle.cell_grid.specs.Grid.{Grid, IsSized}
-use Rattle.cell_grid.specs.Place.{IsFrame, InFrame, IsBetween, place_of, column_of, row_of, cells_of}
+use Rattle.cell_grid.specs.Place.{IsFrame, InFrame, place_of, column_of, row_of, cells_of}
 use Rattle.cell_grid.specs.Cells.{in_plane}
 use Rattle.cell_grid.specs.Boxes.{HoldsCentres}
 use Rattle.cell_grid.proofs.PlaceLaws.{place_below, place_same, column_below}
@@ -30,10 +30,9 @@ use Rattle.shape_parts.specs.declared.shape.Part.{Part}
 use Rattle.shape_parts.specs.Parts.{part_touches, part_covers}
 use Rattle.shape_parts.proofs.PartLaws.{IsReach, part_touched, part_covered}
 use Rattle.shape_parts.proofs.CoverLaws.{shape_touched, shape_covered}
-use Rattle.cell_grid.specs.declared.windows.Span.{Span}
 use Rattle.cell_grid.specs.declared.windows.Window.{Window}
 use Rattle.copper_cover.specs.Kept.{kept_after, keeps_after, keeps}
-use Rattle.cell_grid.specs.Windows.{IsInSpan, IsInWindow, IsWindowOf}
+use Rattle.cell_grid.specs.Windows.{IsInWindow, IsWindowOf}
 
 -- ---- a covered cell is touched
 

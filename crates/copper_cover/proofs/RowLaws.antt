@@ -1,13 +1,14 @@
 -- Rows of bits that a loop writes from west to east.
-use Rattle.std.proofs.Common.{◌≡◌, ◌≢◌, inl, inr, ℕ, zero, suc, ◌<◌, ◌≤◌, ◌+◌, ℤ, pos, ◌≤ℤ◌, int_lt, Bool, true, false, ◌&&◌, ◌||◌, List, [], ◌∷◌, ◌++◌, length, replicate, take, set, get_or, refl, sym, ap, ◌∙◌, arith, get_or-set_other}
+use Rattle.std.proofs.Common.{◌≡◌, ◌≢◌, inl, inr, ℕ, zero, suc, ◌<◌, ◌≤◌, ◌+◌, ◌-◌, ℤ, pos, ◌≤ℤ◌, int_lt, Bool, true, false, ◌&&◌, ◌||◌, List, length, replicate, take, drop, set, get_or, refl, sym, ap, ◌∙◌, arith, get_or-set_other}
 use Rattle.std.proofs.lemmas.Bool.Decides.{eqb_tells, leb_tells}
 use Rattle.std.proofs.lemmas.Bool.{false≢true}
-use Rattle.std.proofs.lemmas.List.{take_more}
 use Rattle.std.specs.List.{list_any}
 use Rattle.std.proofs.lemmas.Grind.{get_or-set_at}
 use Rattle.number_laws.proofs.Tests.{by_bool}
 use Rattle.board_base.specs.declared.places.Point.{Point}
 use Rattle.board_base.specs.Near.{near_of}
+use Rattle.poly_area.specs.declared.edges.Edge.{Edge}
+use Rattle.poly_area.specs.Area.{is_near}
 use Rattle.shape_parts.specs.declared.shape.Part.TheVariants.{Capsule}
 use Rattle.shape_parts.specs.Parts.{grown, part_touches, part_covers}
 use Rattle.copper_cover.proofs.Painting.{covered_part_touched}
@@ -114,26 +115,6 @@ far_covered q a b d h on bit h_in e = unchanged on (part_covers q h (Capsule a b
 
 -- ---- lists of edges
 
-any_one : {X : Type 0} (s : X → Bool) (xs : List X) (i : ℕ) (d : X) → i < length xs → list_any s (take (i + 1) xs) ≡ (list_any s (take i xs) || s (get_or xs i d))
-any_one s xs i d l = ap (list_any s) (take_more xs i d l) ∙ at_end s (take i xs) (get_or xs i d)
-  where
-    at_end : {X : Type 0} (s : X → Bool) (xs : List X) (x : X) → list_any s (xs ++ x ∷ []) ≡ (list_any s xs || s x)
-    at_end s [] x = one (s x)
-      where
-        one : (b : Bool) → (b || false) ≡ b
-        one true = refl
-        one false = refl
-    at_end s (y ∷ ys) x = ap (λ (b : Bool). s y || b) (at_end s ys x) ∙ sym (assoc (s y) (list_any s ys) (s x))
-      where
-        assoc : (a b c : Bool) → ((a || b) || c) ≡ (a || (b || c))
-        assoc true b c = refl
-        assoc false b c = refl
-
--- one more edge is looked at
-pub any_more : {X : Type 0} (s : X → Bool) (xs : List X) (i : ℕ) (d : X) (bit bit' : Bool) → i < length xs → bit ≡ list_any s (take i xs) → bit' ≡ (bit || s (get_or xs i d))
-    → bit' ≡ list_any s (take (i + 1) xs)
-any_more s xs i d bit bit' l e f = f ∙ ap (λ (b : Bool). b || s (get_or xs i d)) e ∙ sym (any_one s xs i d l)
-
 -- bits that are all off
 pub off_at : (bits : List Bool) (n k : ℕ) → bits ≡ replicate n false → get_or bits k false ≡ false
 off_at bits n k e = ap (λ (xs : List Bool). get_or xs k false) e ∙ off n k
@@ -142,3 +123,17 @@ off_at bits n k e = ap (λ (xs : List Bool). get_or xs k false) e ∙ off n k
     off zero k = refl
     off (suc n) zero = refl
     off (suc n) (suc k) = off n k
+
+pub or_more : (old now next all more t : Bool) → now ≡ (old || all) → next ≡ (now || t) → more ≡ (all || t) → next ≡ (old || more)
+or_more old now next all more t e f g = f ∙ ap (λ (s : Bool). s || t) e ∙ along old all t ∙ ap (λ (s : Bool). old || s) (sym g)
+  where
+    along : (a b c : Bool) → ((a || b) || c) ≡ (a || (b || c))
+    along true b c = refl
+    along false b c = refl
+
+-- before the first edge none is near
+pub or_none : (q : Point) (d : ℤ) (m : ℕ) (es : List Edge) (b : Bool) → b ≡ (b || list_any (is_near q d) (take (m - m) (drop m es)))
+or_none q d m es b = sym (unmarked b _ (ap (λ (z : ℕ). list_any (is_near q d) (take z (drop m es))) (none m)))
+  where
+    none : (m : ℕ) → m - m ≡ 0
+    none m = omega arith

@@ -1,10 +1,11 @@
 // The bits of a row of cells: which cells a shape touches, and which it covers. Lengths are in nanometres.
-ghost use Rattle.std.specs.Prelude.{◌≡◌, ℕ, ℤ, pos, ◌≤ℤ◌, ◌<ℤ◌, ◌<◌, false, not, ◌&&◌, ◌||◌, length, replicate, slice_index_or};
-ghost use Rattle.std.specs.List.{All};
+ghost use Rattle.std.specs.Prelude.{◌≡◌, ℕ, ℤ, pos, ◌≤ℤ◌, ◌<ℤ◌, ◌<◌, ◌*◌, false, not, ◌&&◌, ◌||◌, length, replicate, slice_index_or};
+ghost use Rattle.std.specs.List.{All, list_any};
 ghost use Rattle.board_base.specs.Lattice.{IsCellReach};
 ghost use Rattle.board_base.specs.Places.{IsNearPlace, IsSpan};
 ghost use Rattle.board_base.specs.Near.{near_of};
 ghost use Rattle.poly_area.specs.Area.{edges_of, edge_at, is_near, area_near, area_holds};
+ghost use Rattle.poly_area.specs.Blocks.{block_edges};
 ghost use Rattle.shape_parts.specs.declared.shape.Part.TheVariants.{Area};
 ghost use Rattle.shape_parts.specs.Parts.{IsPiece, twice, part_touches, part_covers};
 ghost use Rattle.shape_parts.specs.Shapes.{shape_touches, shape_covers};
@@ -92,6 +93,35 @@ fn mark_edge(bits: &mut [bool], poly: &Poly, edge: u32, d: i64, row: Row)
     mark_near(bits, a, b, d, row);
 }
 
+// Turns the bits on whose centres are near an edge of a block, edge by edge.
+fn mark_each(bits: &mut [bool], poly: &Poly, block: u32, d: i64, row: Row)
+    requires block { 16 * block < length (edges_of poly.now) }
+    requires d { IsSpan d }
+    requires row { IsRow row (length bits.old) }
+    ensures { (k : ℕ) → k < length bits.new
+        → slice_index_or bits.new k false ≡ (slice_index_or bits.old k false || list_any (is_near (centre_in row k) d) (block_edges (edges_of poly.now) block)) }
+{
+    let end = poly.block_end(block);
+    'edges: for edge in 16 * block..end {
+        mark_edge(bits, poly, edge, d, row);
+    }
+}
+
+// Turns the bits on whose centres are near an edge of a block; none at little cost where it misses the row.
+fn mark_block(bits: &mut [bool], poly: &Poly, block: u32, d: i64, row: Row)
+    requires block { 16 * block < length (edges_of poly.now) }
+    requires d { IsSpan d }
+    requires row { IsRow row (length bits.old) }
+    ensures { (k : ℕ) → k < length bits.new
+        → slice_index_or bits.new k false ≡ (slice_index_or bits.old k false || list_any (is_near (centre_in row k) d) (block_edges (edges_of poly.now) block)) }
+{
+    let bounds = poly.block(block);
+    if misses_row(row.y, d, bounds.low, bounds.high) {
+        return;
+    }
+    mark_each(bits, poly, block, d, row);
+}
+
 // Which centres are near an edge of an area, over whatever stood in the bits.
 fn near_row(bits: &mut [bool], poly: &Poly, d: i64, row: Row)
     requires d { IsSpan d }
@@ -99,8 +129,8 @@ fn near_row(bits: &mut [bool], poly: &Poly, d: i64, row: Row)
     ensures { (k : ℕ) → k < length bits.new → slice_index_or bits.new k false ≡ area_near (centre_in row k) d poly.now }
 {
     clear(bits);
-    'edges: for edge in 0..poly.edges() {
-        mark_edge(bits, poly, edge, d, row);
+    'all: for block in 0..poly.blocks() {
+        mark_block(bits, poly, block, d, row);
     }
 }
 
