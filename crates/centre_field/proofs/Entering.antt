@@ -189,14 +189,3 @@ skipped P G w C S n b p out = record {
   best = λ x j e x_in j_in start next e_in e_part.
       elim (cases_eq e b) as (λ _. value_at G x (C j) ≤ value_at G x e) [ inl same ↦ absurd (never_both (subst (λ (x : ℕ). P x ≡ true) same e_part) out) | inr other ↦ p.best x j e x_in j_in start next (omega arith) e_part ];
 }
-
-pub begun : (P : ℕ → Bool) (G : ℕ → ℕ) (w : ℕ) (C S : ℕ → ℕ) → IsEnvelope P G w C S 0 0
-begun P G w C S = record {
-  few = omega arith;
-  listed = λ j h. absurd (omega arith);
-  parts = λ j h. absurd (omega arith);
-  rising = λ j h. absurd (omega arith);
-  first = λ h. absurd (omega arith);
-  some = λ e h k. absurd (omega arith);
-  best = λ x j e x_in j_in. absurd (omega arith);
-}

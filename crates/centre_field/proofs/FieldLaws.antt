@@ -5,7 +5,7 @@ use Rattle.std.proofs.lemmas.Nat.{mod-mul-add, div-mul-add}
 use borrow.Author.Differences.{ints}
 use Rattle.board_base.specs.declared.places.Cell.{Cell}
 use Rattle.board_base.specs.Lattice.{dist2}
-use Rattle.cell_grid.proofs.PlaceLaws.{column_below, row_below}
+use Rattle.cell_grid.proofs.PlaceLaws.{column_below}
 use Rattle.cell_grid.specs.declared.frames.Frame.{Frame}
 use Rattle.cell_grid.specs.Place.{InFrame, IsBetween, place_of, row_of, column_of, cells_of, cell_of_place}
 use Rattle.cell_grid.specs.Cells.{in_frame, in_plane, number_in}

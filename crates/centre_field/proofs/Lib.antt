@@ -8,4 +8,6 @@ pub mod Parabola
 pub mod Entering
 pub mod ListingLaws
 pub mod RowLaws
+pub mod SpanLaws
+pub mod GapLaws
 pub mod TwoPassLaws

@@ -1,5 +1,5 @@
 -- The list of columns, one column further.
-use Rattle.std.proofs.Common.{◌≡◌, ◌≢◌, ℕ, suc, ◌<◌, ◌≤◌, ◌+◌, ◌-◌, ◌*◌, ◌==◌, inl, inr, true, not, List, length, get_or, set, sym, ap, subst, ◌∙◌, arith, get_or-set_other, get_or-set_same}
+use Rattle.std.proofs.Common.{◌≡◌, ◌≢◌, ℕ, suc, ◌<◌, ◌≤◌, ◌+◌, ◌-◌, ◌*◌, ◌==◌, inl, inr, Bool, true, false, not, nat_le, ◌&&◌, List, length, get_or, set, refl, sym, ap, subst, ◌∙◌, arith, get_or-set_other, get_or-set_same}
 use Rattle.std.proofs.lemmas.Bool.{cases_eq}
 use Rattle.std.proofs.lemmas.Bool.Decides.{nat_tests}
 use Rattle.std.proofs.lemmas.List.{length-set}
@@ -8,9 +8,9 @@ use Rattle.cell_grid.specs.Grid.{Grid}
 use Rattle.cell_grid.specs.Place.{scratch_of}
 use Rattle.centre_field.specs.Distances.{none, square_gap}
 use Rattle.centre_field.specs.Columns.{number_at}
-use Rattle.centre_field.specs.Rows.{value_at, start_from, column_at, start_at, square_at, listed_at, IsShort, has_distance, square_in, IsListing}
+use Rattle.centre_field.specs.Rows.{value_at, start_from, column_at, start_at, square_at, listed_at, IsShort, has_distance, has_distance_from, square_in, IsListing}
 use Rattle.centre_field.proofs.Parabola.{start_of, started, not_started}
-use Rattle.centre_field.proofs.Entering.{entered, late, skipped, begun}
+use Rattle.centre_field.proofs.Entering.{entered, late, skipped}
 
 -- what is read after a column is listed
 module _ (xs : List ℕ) (m b s q : ℕ) where
@@ -55,11 +55,11 @@ pub record IsStaying (g : Grid) (y : ℕ) (xs : List ℕ) (n b m : ℕ) : Type 0
   pub gone : (j : ℕ) → m ≤ j → j < n → start_of (square_in g y) (column_at xs j) b ≤ start_at xs j
   pub top : (k : ℕ) → suc k ≡ m → start_at xs k < start_of (square_in g y) (column_at xs k) b
 
-pub stay : (g : Grid) (y : ℕ) (xs : List ℕ) (n b m q : ℕ) → IsListing g y xs n b → q ≡ square_in g y b → m ≤ n
+pub stay : (g : Grid) (y from : ℕ) (xs : List ℕ) (n b m q : ℕ) → IsListing g y from xs n b → q ≡ square_in g y b → m ≤ n
     → ((j : ℕ) → m ≤ j → j < n → square_gap (start_at xs j) b + q < square_gap (start_at xs j) (column_at xs j) + square_at xs j)
     → ((k : ℕ) → suc k ≡ m → square_gap (start_at xs k) (column_at xs k) + square_at xs k ≤ square_gap (start_at xs k) b + q) → IsStaying g y xs n b m
 unfolding value_at
-stay g y xs n b m q p e few gone top = record {
+stay g y from xs n b m q p e few gone top = record {
   few = few;
   gone = λ j h k. started (square_in g y) (column_at xs j) b (start_at xs j) (p.envelope.listed j k) (let l = gone j h k in let s = p.squares_listed j k in omega arith);
   top = λ k h.
@@ -75,21 +75,38 @@ square_small d q h e = let s = mul-le d d 32767 32767 (omega arith) (omega arith
 pub some_distance : (v : ℕ) → v < 32768 → not (v == none) ≡ true
 some_distance v h = grind (arith, nat_tests)
 
+pub part_on : (from a : ℕ) (h : Bool) → from ≤ a → h ≡ true → (nat_le from a && h) ≡ true
+part_on from a h late on = grind (arith, nat_tests)
+
+pub part_from : (from a : ℕ) (h : Bool) → (nat_le from a && h) ≡ true → from ≤ a
+part_from from a h on = grind (arith, nat_tests)
+
+part_off : (n h : Bool) → h ≡ false → (n && h) ≡ false
+part_off true h e = e
+part_off false h e = refl
+
+no_false : false ≡ true → ⊥
+no_false e = cc
+
+pub part_has : (n h : Bool) → (n && h) ≡ true → h ≡ true
+part_has true h e = e
+part_has false h e = absurd (no_false e)
+
 room : (g : Grid) (m : ℕ) (xs : List ℕ) → length xs ≡ scratch_of g.frame → m < g.frame.width → 3 * m + 2 < length xs
 room g m xs e h = omega arith
 
 -- column b enters behind the m columns that stay
-pub entering : (g : Grid) (y : ℕ) (xs : List ℕ) (n b m s d q : ℕ) → IsListing g y xs n b → IsStaying g y xs n b m → b < g.frame.width → length xs ≡ scratch_of g.frame → d ≡ number_at g b y → d < 32768 → q ≡ d * d
-    → ((k : ℕ) → suc k ≡ m → s ≡ start_of (square_in g y) (column_at xs k) b) → (m ≡ 0 → s ≡ 0) → s < g.frame.width → IsListing g y (listed_at xs m b s q) (m + 1) (b + 1)
-entering g y xs n b m s d q p st b_in sized d_is d_small q_is start first s_in =
+pub entering : (g : Grid) (y from : ℕ) (xs : List ℕ) (n b m s d q : ℕ) → from ≤ b → IsListing g y from xs n b → IsStaying g y xs n b m → b < g.frame.width → length xs ≡ scratch_of g.frame → d ≡ number_at g b y → d < 32768 → q ≡ d * d
+    → ((k : ℕ) → suc k ≡ m → s ≡ start_of (square_in g y) (column_at xs k) b) → (m ≡ 0 → s ≡ 0) → s < g.frame.width → IsListing g y from (listed_at xs m b s q) (m + 1) (b + 1)
+entering g y from xs n b m s d q late_b p st b_in sized d_is d_small q_is start first s_in =
     let few = p.envelope.few in
     let m_in : m < g.frame.width = let f = st.few in omega arith in
     let r = room g m xs sized m_in in
-    let on : has_distance g y b ≡ true = ap (λ (v : ℕ). not (v == none)) (sym d_is) ∙ some_distance d d_small in
+    let on : has_distance_from g y from b ≡ true = part_on from b (has_distance g y b) late_b (ap (λ (v : ℕ). not (v == none)) (sym d_is) ∙ some_distance d d_small) in
     let q_in : q ≡ square_in g y b = q_is ∙ ap (λ (v : ℕ). v * v) d_is in
     let ys = listed_at xs m b s q in
     record {
-      envelope = entered (has_distance g y) (square_in g y) g.frame.width (column_at xs) (start_at xs) (column_at ys) (start_at ys) n b m s p.envelope st.few st.gone on
+      envelope = entered (has_distance_from g y from) (square_in g y) g.frame.width (column_at xs) (start_at xs) (column_at ys) (start_at ys) n b m s p.envelope st.few st.gone on
           (λ k h. (st.top k h, start k h)) first (new_column xs m b s q r) (new_start xs m b s q r) (old_column xs m b s q) (old_start xs m b s q);
       squares_listed = λ j h. elim (cases_eq j m) as (λ _. square_at ys j ≡ square_in g y (column_at ys j)) [
         | inl same ↦ subst (λ (i : ℕ). square_at ys i ≡ square_in g y (column_at ys i)) (sym same) (new_square xs m b s q r ∙ q_in ∙ ap (square_in g y) (sym (new_column xs m b s q r)))
@@ -113,35 +130,43 @@ entering g y xs n b m s d q p st b_in sized d_is d_small q_is start first s_in =
     }
 
 -- column b would take over past the row's end
-pub passing : (g : Grid) (y : ℕ) (xs : List ℕ) (n b m s d : ℕ) → IsListing g y xs n b → IsStaying g y xs n b m → d ≡ number_at g b y → d < 32768
-    → ((k : ℕ) → suc k ≡ m → s ≡ start_of (square_in g y) (column_at xs k) b) → 0 < m → g.frame.width ≤ s → IsListing g y xs m (b + 1)
-passing g y xs n b m s d p st d_is d_small start some past =
-    let on : has_distance g y b ≡ true = ap (λ (v : ℕ). not (v == none)) (sym d_is) ∙ some_distance d d_small in
+pub passing : (g : Grid) (y from : ℕ) (xs : List ℕ) (n b m s d : ℕ) → from ≤ b → IsListing g y from xs n b → IsStaying g y xs n b m → d ≡ number_at g b y → d < 32768
+    → ((k : ℕ) → suc k ≡ m → s ≡ start_of (square_in g y) (column_at xs k) b) → 0 < m → g.frame.width ≤ s → IsListing g y from xs m (b + 1)
+passing g y from xs n b m s d late_b p st d_is d_small start some past =
+    let on : has_distance_from g y from b ≡ true = part_on from b (has_distance g y b) late_b (ap (λ (v : ℕ). not (v == none)) (sym d_is) ∙ some_distance d d_small) in
     record {
-      envelope = late (has_distance g y) (square_in g y) g.frame.width (column_at xs) (start_at xs) n b m s p.envelope st.few st.gone on (λ k h. (st.top k h, start k h)) some past;
+      envelope = late (has_distance_from g y from) (square_in g y) g.frame.width (column_at xs) (start_at xs) n b m s p.envelope st.few st.gone on (λ k h. (st.top k h, start k h)) some past;
       squares_listed = λ j h. p.squares_listed j (let f = st.few in omega arith);
       short = λ j h. p.short j (let f = st.few in omega arith);
     }
 
 -- column b has no kept cell
-pub leaving_out : (g : Grid) (y : ℕ) (xs : List ℕ) (n b : ℕ) → IsListing g y xs n b → number_at g b y ≡ none → IsListing g y xs n (b + 1)
-leaving_out g y xs n b p e = record {
-  envelope = skipped (has_distance g y) (square_in g y) g.frame.width (column_at xs) (start_at xs) n b p.envelope (ap (λ (v : ℕ). not (v == none)) e);
+pub leaving_out : (g : Grid) (y from : ℕ) (xs : List ℕ) (n b : ℕ) → IsListing g y from xs n b → number_at g b y ≡ none → IsListing g y from xs n (b + 1)
+leaving_out g y from xs n b p e = record {
+  envelope = skipped (has_distance_from g y from) (square_in g y) g.frame.width (column_at xs) (start_at xs) n b p.envelope (part_off (nat_le from b) (has_distance g y b) (ap (λ (v : ℕ). not (v == none)) e));
   squares_listed = p.squares_listed;
   short = p.short;
 }
 
-pub nothing_listed : (g : Grid) (y : ℕ) (xs : List ℕ) → IsListing g y xs 0 0
-nothing_listed g y xs = record {
-  envelope = begun (has_distance g y) (square_in g y) g.frame.width (column_at xs) (start_at xs);
+pub nothing_listed : (g : Grid) (y from : ℕ) (xs : List ℕ) → IsListing g y from xs 0 from
+nothing_listed g y from xs = record {
+  envelope = record {
+    few = omega arith;
+    listed = λ j h. absurd (omega arith);
+    parts = λ j h. absurd (omega arith);
+    rising = λ j h. absurd (omega arith);
+    first = λ h. absurd (omega arith);
+    some = λ e h on. absurd (let late = part_from from e (has_distance g y e) on in omega arith);
+    best = λ x j e x_in j_in. absurd (omega arith);
+  };
   squares_listed = λ j h. absurd (omega arith);
   short = λ j h. absurd (omega arith);
 }
 
 -- the start after the last column that stays
-pub start_is : (g : Grid) (y : ℕ) (xs : List ℕ) (n b m s c u q d : ℕ) → IsListing g y xs n b → m ≤ n → 0 < m → c ≡ column_at xs (m - 1) → u ≡ square_at xs (m - 1) → d ≡ number_at g b y → q ≡ d * d
+pub start_is : (g : Grid) (y from : ℕ) (xs : List ℕ) (n b m s c u q d : ℕ) → IsListing g y from xs n b → m ≤ n → 0 < m → c ≡ column_at xs (m - 1) → u ≡ square_at xs (m - 1) → d ≡ number_at g b y → q ≡ d * d
     → s ≡ start_from c u b q → (k : ℕ) → suc k ≡ m → s ≡ start_of (square_in g y) (column_at xs k) b
-start_is g y xs n b m s c u q d p few some c_is u_is d_is q_is s_is k h =
+start_is g y from xs n b m s c u q d p few some c_is u_is d_is q_is s_is k h =
     let i : m - 1 ≡ k = omega arith in
     let e : c ≡ column_at xs k = c_is ∙ ap (column_at xs) i in
     let f : u ≡ square_in g y (column_at xs k) = u_is ∙ ap (square_at xs) i ∙ p.squares_listed k (omega arith) in

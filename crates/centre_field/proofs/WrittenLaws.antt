@@ -88,6 +88,21 @@ no_row Fact start frame y e v s = record {
   after = λ k h. refl;
 }
 
+-- the columns before `from` stand
+pub row_from : (Fact : ℕ → ℕ → Type 0) (start : Grid) (frame : Frame) (y from : ℕ) → frame ≡ start.frame → IsFrame frame → IsSized start
+    → ((a : ℕ) → a < from → Fact a (get_or start.clearances (y * frame.width + a) 0)) → IsRowWritten Fact start frame y start from
+row_from Fact start frame y from e v s stood = record {
+  rest = refl;
+  same_frame = e;
+  valid = v;
+  width = ap (λ (f : Frame). f.width) e;
+  height = ap (λ (f : Frame). f.height) e;
+  sized = s.clearances ∙ ap cells_of (sym e);
+  done = stood;
+  before = λ k h. refl;
+  after = λ k h. refl;
+}
+
 pub row_more : (Fact : ℕ → ℕ → Type 0) (start g g' : Grid) (frame : Frame) (y x n v : ℕ) → IsRowWritten Fact start frame y g x → x < frame.width → y < frame.height → n ≡ y * frame.width + x
     → Fact x v → g' ≡ record g { clearances = set g.clearances n v } → IsRowWritten Fact start frame y g' (x + 1)
 row_more Fact start g g' frame y x n v p x_in y_in place fact written =

@@ -1,5 +1,5 @@
 -- The least squared distance at each place of a row, by the columns that are the nearest somewhere.
-use Rattle.std.specs.Prelude.{◌≡◌, ℕ, suc, ◌+◌, ◌-◌, ◌*◌, ◌/◌, ◌<◌, ◌≤◌, ◌⊎◌, ◌==◌, Bool, true, not, nat_lt, cond, List, slice_index, slice_set}
+use Rattle.std.specs.Prelude.{◌≡◌, ℕ, suc, ◌+◌, ◌-◌, ◌*◌, ◌/◌, ◌<◌, ◌≤◌, ◌⊎◌, ◌==◌, Bool, true, not, nat_le, nat_lt, ◌&&◌, cond, List, slice_index, slice_set}
 use Rattle.cell_grid.specs.Grid.{Grid}
 use Rattle.centre_field.specs.Distances.{none, square_gap, IsLeast}
 use Rattle.centre_field.specs.Columns.{number_at}
@@ -49,6 +49,10 @@ pub record IsShort (width : ℕ) (scratch : List ℕ) (j : ℕ) : Type 0 where
 abbrev pub has_distance : Grid → ℕ → ℕ → Bool
 has_distance g y a = not (number_at g a y == none)
 
+-- whether column a is no earlier than `from` and has a kept cell
+abbrev pub has_distance_from : Grid → ℕ → ℕ → ℕ → Bool
+has_distance_from g y from a = nat_le from a && has_distance g y a
+
 -- the square of the distance in column a and row y
 abbrev pub square_in : Grid → ℕ → ℕ → ℕ
 square_in g y a = number_at g a y * number_at g a y
@@ -57,19 +61,35 @@ square_in g y a = number_at g a y * number_at g a y
 abbrev pub AreDistances : Grid → ℕ → Type 0
 AreDistances g y = (a : ℕ) → a < g.frame.width → (number_at g a y ≡ none) ⊎ (number_at g a y < 32768)
 
+-- so is each from one column on
+abbrev pub AreDistancesFrom : Grid → ℕ → ℕ → Type 0
+AreDistancesFrom g y from = (a : ℕ) → from ≤ a → a < g.frame.width → (number_at g a y ≡ none) ⊎ (number_at g a y < 32768)
+
 -- the scratch numbers list the columns before b, with the squares of those
 pub record ListsColumns (part : ℕ → Bool) (squares : ℕ → ℕ) (width : ℕ) (scratch : List ℕ) (n b : ℕ) : Type 0 where
   pub envelope : IsEnvelope part squares width (column_at scratch) (start_at scratch) n b
   pub squares_listed : (j : ℕ) → j < n → square_at scratch j ≡ squares (column_at scratch j)
   pub short : (j : ℕ) → j < n → IsShort width scratch j
 
--- they list the columns before b of row y
-abbrev pub IsListing : Grid → ℕ → List ℕ → ℕ → ℕ → Type 0
-IsListing g y scratch n b = ListsColumns (has_distance g y) (square_in g y) g.frame.width scratch n b
+-- they list the columns of row y from one on and before b
+abbrev pub IsListing : Grid → ℕ → ℕ → List ℕ → ℕ → ℕ → Type 0
+IsListing g y from scratch n b = ListsColumns (has_distance_from g y from) (square_in g y) g.frame.width scratch n b
 
 -- v is the least value at column x over the columns of row y that have a kept cell
 abbrev pub IsLeastInRow : Grid → ℕ → ℕ → ℕ → Type 0
 IsLeastInRow g y x v = IsLeast (has_distance g y) (value_at (square_in g y) x) g.frame.width v
+
+-- v is the least value at column x over those of the columns from `from` up to `to` that have a kept cell
+abbrev pub IsLeastInSpan : Grid → ℕ → ℕ → ℕ → ℕ → ℕ → Type 0
+IsLeastInSpan g y from to x v = IsLeast (has_distance_from g y from) (value_at (square_in g y) x) to v
+
+-- the columns from `from` up to `to` of row y got numbers of which the fact holds, and no other number changed
+pub record WritesSpan (Fact : ℕ → ℕ → Type 0) (old new : Grid) (y from to : ℕ) : Type 0 where
+  pub before : (k : ℕ) → k < y * old.frame.width → slice_index new.clearances k ≡ slice_index old.clearances k
+  pub after : (k : ℕ) → y * old.frame.width + old.frame.width ≤ k → slice_index new.clearances k ≡ slice_index old.clearances k
+  pub west : (x : ℕ) → x < from → number_at new x y ≡ number_at old x y
+  pub east : (x : ℕ) → to ≤ x → x < old.frame.width → number_at new x y ≡ number_at old x y
+  pub written : (x : ℕ) → from ≤ x → x < to → Fact x (number_at new x y)
 
 -- row y got its least values, and nothing else changed but scratch numbers
 pub record FinishesRow (old new : Grid) (y : ℕ) : Type 0 where

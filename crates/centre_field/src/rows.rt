@@ -1,8 +1,8 @@
 // The least squares along a row, by the columns that are the nearest somewhere.
 ghost use Rattle.std.specs.Prelude.{◌≡◌, ◌≢◌, ◌<◌, ◌≤◌, ◌+◌, ◌*◌, ℕ, suc};
 ghost use Rattle.centre_field.specs.Distances.{square_gap as square_of};
-ghost use Rattle.centre_field.specs.Columns.{number_at, ChangesRow};
-ghost use Rattle.centre_field.specs.Rows.{column_at, start_at, square_at, listed_at, IsShort, AreDistances, IsListing, IsLeastInRow, FinishesRow, AreLeastInRows, start_from};
+ghost use Rattle.centre_field.specs.Columns.{number_at};
+ghost use Rattle.centre_field.specs.Rows.{column_at, start_at, square_at, listed_at, IsShort, AreDistances, AreDistancesFrom, IsListing, IsLeastInRow, IsLeastInSpan, WritesSpan, FinishesRow, AreLeastInRows, start_from};
 
 use crate::gaps::square_gap;
 use cell_grid::{Workbench, cell_at};
@@ -110,14 +110,15 @@ fn start_after(column: u32, column_square: u64, b: u32, square: u64) -> u64
     }
 }
 
-// Column `b` enters the list of `n` columns before it, and the new number of columns is given.
-fn enter(bench: &mut Workbench, y: u32, n: u32, b: u32, distance: u32) -> u32
+// Column `b` enters the list of `n` columns from `from` on and before it, and the new number of columns is given.
+fn enter(bench: &mut Workbench, y: u32, from: u32, n: u32, b: u32, distance: u32) -> u32
+    requires from { from ≤ b }
     requires b { b < (bench.old).frame.width }
     requires distance { distance ≡ number_at bench.old b y }
     requires short { distance < 32768 }
-    requires listing { IsListing bench.old y (bench.old).scratch n b }
+    requires listing { IsListing bench.old y from (bench.old).scratch n b }
     ensures rest { bench.new ≡ record bench.old { scratch = (bench.new).scratch } }
-    ensures listing { IsListing bench.old y (bench.new).scratch result (b + 1) }
+    ensures listing { IsListing bench.old y from (bench.new).scratch result (b + 1) }
 {
     let width = bench.frame().width;
     let square = distance as u64 * distance as u64;
@@ -151,54 +152,63 @@ fn enter(bench: &mut Workbench, y: u32, n: u32, b: u32, distance: u32) -> u32
     m
 }
 
-// Lists the columns of row `y`, from its distances along the columns, and gives their number.
-fn list_row(bench: &mut Workbench, y: u32) -> u32
+// Lists the columns of row `y` from `from` up to `to`, from its distances along the columns, and gives
+// their number.
+fn list_span(bench: &mut Workbench, y: u32, from: u32, to: u32) -> u32
     requires y { y < (bench.old).frame.height }
-    requires distances { AreDistances bench.old y }
+    requires order { from ≤ to }
+    requires to { to ≤ (bench.old).frame.width }
+    requires distances { AreDistancesFrom bench.old y from }
     ensures rest { bench.new ≡ record bench.old { scratch = (bench.new).scratch } }
-    ensures listing { IsListing bench.old y (bench.new).scratch result (bench.old).frame.width }
+    ensures listing { IsListing bench.old y from (bench.new).scratch result to }
 {
     let frame = bench.frame();
     let mut n = 0;
-    'columns: for b in 0..frame.width {
+    'columns: for b in from..to {
         let distance = bench.clearance(cell_at(frame, b, y));
         if distance != u32::MAX {
-            n = enter(bench, y, n, b, distance);
+            n = enter(bench, y, from, n, b, distance);
         }
     }
     n
 }
 
-// Where in the list the nearest column at `x` stands, after `k`, where that before `x` stands.
+// Where in the list the nearest column at `x` stands, at `k` or after it.
 #[inline(always)]
 fn nearest(bench: &Workbench, n: u32, k: u32, x: u32) -> u32
     requires n { n ≤ (bench.now).frame.width }
     requires k { k < n }
     requires short { (j : ℕ) → j < n → IsShort (bench.now).frame.width (bench.now).scratch j }
-    ensures low { k ≤ result }
-    ensures step { result ≤ k + 1 }
+    requires started { start_at (bench.now).scratch k ≤ x }
     ensures inside { result < n }
-    ensures moved { result ≢ k → start_at (bench.now).scratch (suc k) ≤ x }
-    ensures stayed { result ≡ k → suc k < n → x < start_at (bench.now).scratch (suc k) }
+    ensures started { start_at (bench.now).scratch result ≤ x }
+    ensures next { suc result < n → x < start_at (bench.now).scratch (suc result) }
 {
-    if k + 1 < n && listed(bench, k + 1).start <= x {
-        k + 1
-    } else {
-        k
+    // A side has at most 32,768 cells.
+    let _frame = bench.frame();
+    let mut j = k;
+    'further: while j + 1 < n {
+        if x < listed(bench, j + 1).start {
+            return j;
+        }
+        j += 1;
     }
+    j
 }
 
-// Writes the least square at each place of row `y` from the list of its columns.
-fn write_row(bench: &mut Workbench, y: u32, n: u32)
+// Writes the least square at each place of row `y` from `from` up to `to`, from the list of its columns.
+fn write_span(bench: &mut Workbench, y: u32, from: u32, to: u32, n: u32)
     requires y { y < (bench.old).frame.height }
+    requires order { from ≤ to }
+    requires to { to ≤ (bench.old).frame.width }
     requires some { 0 < n }
-    requires listing { IsListing bench.old y (bench.old).scratch n (bench.old).frame.width }
-    ensures row { ChangesRow bench.old bench.new y }
-    ensures least { (x : ℕ) → x < (bench.old).frame.width → IsLeastInRow bench.old y x (number_at bench.new x y) }
+    requires listing { IsListing bench.old y from (bench.old).scratch n to }
+    ensures rest { bench.new ≡ record bench.old { clearances = (bench.new).clearances } }
+    ensures span { WritesSpan (IsLeastInSpan bench.old y from to) bench.old bench.new y from to }
 {
     let frame = bench.frame();
     let mut k = 0;
-    'places: for x in 0..frame.width {
+    'places: for x in from..to {
         k = nearest(bench, n, k, x);
         let column = listed(bench, k);
         let least = value(x, column.column, column.square) as u32;
@@ -206,15 +216,73 @@ fn write_row(bench: &mut Workbench, y: u32, n: u32)
     }
 }
 
-// From the distances along columns to the least squares, in row `y`.
+// The columns of row `y` from `from` up to `to` get their least squares over the columns of that span.
+fn finish_span(bench: &mut Workbench, y: u32, from: u32, to: u32)
+    requires y { y < (bench.old).frame.height }
+    requires order { from ≤ to }
+    requires to { to ≤ (bench.old).frame.width }
+    requires distances { AreDistancesFrom bench.old y from }
+    ensures rest { bench.new
+        ≡ record bench.old { clearances = (bench.new).clearances; scratch = (bench.new).scratch } }
+    ensures span { WritesSpan (IsLeastInSpan bench.old y from to) bench.old bench.new y from to }
+{
+    let n = list_span(bench, y, from, to);
+    if 0 < n {
+        write_span(bench, y, from, to, n);
+    }
+}
+
+// The first column of row `y` at or after `from` that has no kept cell in the row, or the end of the row.
+fn gap_start(bench: &Workbench, y: u32, from: u32) -> u32
+    requires y { y < (bench.now).frame.height }
+    requires from { from ≤ (bench.now).frame.width }
+    ensures low { from ≤ result }
+    ensures high { result ≤ (bench.now).frame.width }
+    ensures kept { (a : ℕ) → from ≤ a → a < result → number_at bench.now a y ≡ 0 }
+    ensures found { result < (bench.now).frame.width → number_at bench.now result y ≢ 0 }
+{
+    let frame = bench.frame();
+    'columns: for x in from..frame.width {
+        if bench.clearance(cell_at(frame, x, y)) != 0 {
+            return x;
+        }
+    }
+    frame.width
+}
+
+// The first column of row `y` at or after `from` that has a kept cell in the row, or the end of the row.
+fn gap_end(bench: &Workbench, y: u32, from: u32) -> u32
+    requires y { y < (bench.now).frame.height }
+    requires from { from ≤ (bench.now).frame.width }
+    ensures low { from ≤ result }
+    ensures high { result ≤ (bench.now).frame.width }
+    ensures far { (a : ℕ) → from ≤ a → a < result → number_at bench.now a y ≢ 0 }
+    ensures found { result < (bench.now).frame.width → number_at bench.now result y ≡ 0 }
+{
+    let frame = bench.frame();
+    'columns: for x in from..frame.width {
+        if bench.clearance(cell_at(frame, x, y)) == 0 {
+            return x;
+        }
+    }
+    frame.width
+}
+
+// From the distances along columns to the least squares, in row `y`: gap by gap between kept cells.
 fn finish_row(bench: &mut Workbench, y: u32)
     requires y { y < (bench.old).frame.height }
     requires distances { AreDistances bench.old y }
     ensures { FinishesRow bench.old bench.new y }
 {
-    let n = list_row(bench, y);
-    if 0 < n {
-        write_row(bench, y, n);
+    let width = bench.frame().width;
+    let mut from = 0;
+    'gaps: while from < width {
+        let start = gap_start(bench, y, from);
+        let end = gap_end(bench, y, start);
+        if start < end {
+            finish_span(bench, y, start.max(1) - 1, (end + 1).min(width));
+        }
+        from = end;
     }
 }
 
