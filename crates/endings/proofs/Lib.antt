@@ -1,4 +1,5 @@
 pub mod TellLaws
+pub mod PutLaws
 pub mod RunLaws
 pub mod AloneLaws
 pub mod ReadingLaws
