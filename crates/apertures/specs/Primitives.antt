@@ -146,6 +146,13 @@ is_on values = int_le (pos 1) (field values 0)
 abbrev pub piece : Bool → Part → Piece
 piece on part = record { part = part; on = on }
 
+-- the two bars of a cross about a point: as wide as the gap, and as high as it
+abbrev pub cross_bars : ℕ → Point → ℤ → ℤ → Result (List Piece) ApertureError
+cross_bars turn c gap outer = do
+  upright ← turned_box turn c gap outer
+  level ← turned_box turn c outer gap
+  Ok (piece false upright ∷ piece false level ∷ [])
+
 -- 7, a thermal: the centre, the outer and the inner diameter, the gap and an angle: a disc, and off it an inner disc
 -- and the two bars of a cross
 abbrev pub thermal_pieces : Unit → List ℤ → Result (List Piece) ApertureError
@@ -155,9 +162,8 @@ thermal_pieces unit values = do
   gap ← size_in unit values 4
   ring ← turned_disc (turn_of (field values 5)) (point_in unit values 0) outer
   hole ← turned_disc (turn_of (field values 5)) (point_in unit values 0) inner
-  upright ← turned_box (turn_of (field values 5)) (point_in unit values 0) gap outer
-  level ← turned_box (turn_of (field values 5)) (point_in unit values 0) outer gap
-  Ok (piece true ring ∷ piece false hole ∷ piece false upright ∷ piece false level ∷ [])
+  bars ← cross_bars (turn_of (field values 5)) (point_in unit values 0) gap outer
+  Ok (piece true ring ∷ piece false hole ∷ bars)
 
 -- the piece of a part
 abbrev pub one_piece : Bool → Result Part ApertureError → Result (List Piece) ApertureError

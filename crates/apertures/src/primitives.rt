@@ -2,10 +2,12 @@
 ghost use Rattle.std.specs.Prelude.{◌≡◌, ◌+◌, ◌*◌, ◌<◌, ◌≤◌, ◌⊎◌, ◌*ℤ◌, neg_ℤ, ◌++◌, ◌∷◌, [], length, map, pos, unsigned_abs, MatchResult, IfOk, OnOk, Ok, Err, true, false, Some, None};
 ghost use Rattle.std.specs.List.{All, range_with_len};
 ghost use Rattle.std.specs.Option.{IfSome};
+ghost use Rattle.plane_arcs.specs.Vectors.{IsUpTo};
+ghost use Rattle.shape_parts.specs.Parts.{IsWidth};
 ghost use Rattle.macro_eval.specs.Values.{IsValue as IsMacroValue};
 ghost use Rattle.apertures.specs.declared.aperture.ApertureError.TheVariants.{Memory};
 ghost use Rattle.apertures.specs.Figures.{IsBounded, IsBoundedPiece};
-ghost use Rattle.apertures.specs.Primitives.{HasValues, circle_part, outline_points as outline_points_of, outline_part, polygon_part, box_part, line_part, piece, thermal_pieces, one_piece, line_pieces, piece_of_some, pieces_of as pieces_of_primitive, all_pieces as all_pieces_of};
+ghost use Rattle.apertures.specs.Primitives.{HasValues, circle_part, outline_points as outline_points_of, outline_part, polygon_part, box_part, line_part, piece, cross_bars as cross_bars_of, thermal_pieces, one_piece, line_pieces, piece_of_some, pieces_of as pieces_of_primitive, all_pieces as all_pieces_of};
 
 use crate::aperture::{ApertureError, Unit};
 use crate::fields::{count_in, is_on, point_in, size_in, turn_in};
@@ -134,6 +136,27 @@ fn at_most_one(alloc: Global, part: Option<Part>, on: bool) -> Result<Vec<Piece>
     }
 }
 
+// The two bars of a cross about a point: as wide as the gap, and as high as it.
+fn cross_bars(
+    alloc: Global,
+    c: Point,
+    gap: i64,
+    outer: i64,
+    turn: u64,
+) -> Result<(Part, Part), ApertureError>
+    requires c { IsUpTo 30000000000000000 c }
+    requires gap { IsWidth gap }
+    requires outer { IsWidth outer }
+    requires turn { turn < 360000000 }
+    ensures value { MatchResult result (λ bars. cross_bars_of turn c gap outer ≡ Ok (piece false bars.0 ∷ piece false bars.1 ∷ []))
+        (λ e. (e ≡ Memory) ⊎ (cross_bars_of turn c gap outer ≡ Err e)) }
+    ensures bounded { IfOk result (λ bars. IsBounded bars.0 × IsBounded bars.1) }
+{
+    let upright = turned_box(alloc, c, gap, outer, turn)?;
+    let level = turned_box(alloc, c, outer, gap, turn)?;
+    Ok((upright, level))
+}
+
 // A thermal (4.5.1.8).
 fn thermal(alloc: Global, values: &[i128], unit: Unit) -> Result<Vec<Piece>, ApertureError>
     requires { All IsMacroValue values.now }
@@ -148,8 +171,7 @@ fn thermal(alloc: Global, values: &[i128], unit: Unit) -> Result<Vec<Piece>, Ape
     let c = point_in(values, 0, unit);
     let ring = turned_disc(c, outer, turn)?;
     let hole = turned_disc(c, inner, turn)?;
-    let upright = turned_box(alloc, c, gap, outer, turn)?;
-    let level = turned_box(alloc, c, outer, gap, turn)?;
+    let (upright, level) = cross_bars(alloc, c, gap, outer, turn)?;
     let mut pieces = one(alloc, ring, true)?;
     put(&mut pieces, hole, false)?;
     put(&mut pieces, upright, false)?;
