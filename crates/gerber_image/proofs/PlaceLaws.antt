@@ -15,7 +15,7 @@ use Rattle.apertures.specs.Defined.{at}
 use Rattle.gerber_image.specs.Checks.{is_far, is_long}
 use Rattle.gerber_words.specs.Fits.{IsWritten}
 use Rattle.gerber_image.specs.Numbers.{unit_size, nanometres}
-use Rattle.gerber_words.specs.declared.commands.Format.{Format}
+use Rattle.gerber_words.specs.declared.commands.AxisFormat.{AxisFormat}
 use Rattle.gerber_words.specs.declared.commands.Digits.{Digits}
 use Rattle.gerber_words.proofs.NumeralLaws.{some_digits}
 use Rattle.std.proofs.Common.{pow-add}
@@ -81,18 +81,18 @@ unit_most Inch = omega arith
 product_size : (v : ℤ) (n : ℕ) → unsigned_abs (v *ℤ pos n) ≡ unsigned_abs v * n
 product_size v n = grind (arith, ints)
 
-pub coordinate_most : (format : Format) (unit : Unit) (digits : Digits) → format.whole ≤ 6 → IsWritten digits → is_long (Some format) (Some digits) ≡ false
-    → unsigned_abs (nanometres format.decimals unit digits.value) ≤ 25400000000000
+pub coordinate_most : (format : AxisFormat) (unit : Unit) (digits : Digits) → format.integer_digits ≤ 6 → IsWritten digits → is_long (Some format) (Some digits) ≡ false
+    → unsigned_abs (nanometres format.decimal_digits unit digits.value) ≤ 25400000000000
 unfolding nanometres
 coordinate_most format unit digits wide written few =
-    let size = size_most (unsigned_abs digits.value) (unit_size unit) digits.count format.whole format.decimals written (grind (arith, few)) wide (unit_most unit) in
-    quotient_most (digits.value *ℤ pos (unit_size unit)) (10 ^ format.decimals) 25400000000000 (some_digits format.decimals)
-    (subst (λ n. n ≤ 25400000000000 * 10 ^ format.decimals) (sym (product_size digits.value (unit_size unit))) size)
+    let size = size_most (unsigned_abs digits.value) (unit_size unit) digits.count format.integer_digits format.decimal_digits written (grind (arith, few)) wide (unit_most unit) in
+    quotient_most (digits.value *ℤ pos (unit_size unit)) (10 ^ format.decimal_digits) 25400000000000 (some_digits format.decimal_digits)
+    (subst (λ n. n ≤ 25400000000000 * 10 ^ format.decimal_digits) (sym (product_size digits.value (unit_size unit))) size)
 
 -- a number of at most twelve digits
-pub small_number : (format : Format) (digits : Digits) → format.whole ≤ 6 → format.decimals ≤ 6 → IsWritten digits → is_long (Some format) (Some digits) ≡ false → unsigned_abs digits.value < 10 ^ 12
+pub small_number : (format : AxisFormat) (digits : Digits) → format.integer_digits ≤ 6 → format.decimal_digits ≤ 6 → IsWritten digits → is_long (Some format) (Some digits) ≡ false → unsigned_abs digits.value < 10 ^ 12
 small_number format digits whole decimals written few =
-    let count : digits.count ≤ 12 = within format.whole format.decimals digits.count whole decimals (grind (arith, few)) in
+    let count : digits.count ≤ 12 = within format.integer_digits format.decimal_digits digits.count whole decimals (grind (arith, few)) in
     let power : 10 ^ digits.count ≤ 10 ^ 12 = pow-le-pow_right (omega arith) {i = digits.count} {j = 12} count in
     less (unsigned_abs digits.value) (10 ^ digits.count) (10 ^ 12) written power
   where

@@ -8,7 +8,7 @@ use Rattle.apertures.specs.declared.place.Mirror.{Mirror}
 use Rattle.gerber_image.specs.InForce.{step_length, opened}
 use Rattle.apertures.specs.Defined.{at}
 use Rattle.gerber_image.specs.Checks.{Held, excess_of, fault_of, count_fault, first_fault_of}
-use Rattle.gerber_words.specs.Fits.{IsCommand}
+use Rattle.gerber_words.specs.Fits.{IsCommand, IsFormat}
 use Rattle.gerber_image.specs.State.{after, Steps, IsReady, IsRepeat}
 use Rattle.gerber_words.specs.declared.commands.Format.{Format}
 use Rattle.gerber_words.specs.declared.commands.Interpolation.{Interpolation}
@@ -31,7 +31,7 @@ second (Some x) b e = absurd cc
 within_after : (h : Held) (command : Command) → fault_of h command ≡ None → excess_of (after h command).painted ≡ None
 within_after h command e = second (first_fault_of h.now h.block command) (count_fault h command) e
 
-pub ready_format : (h : Held) (f : Format) → IsReady h → (f.whole ≤ 6) × (f.decimals ≤ 6) → IsReady (after h (commands.Format f))
+pub ready_format : (h : Held) (f : Format) → IsReady h → IsFormat f → IsReady (after h (commands.Format f))
 ready_format h f r b = record { within = r.within; format = b; repeat = r.repeat; here = r.here }
 
 pub ready_unit : (h : Held) (unit : Unit) (in_block : Bool) → IsReady h → IsReady (after h (commands.Unit unit in_block))

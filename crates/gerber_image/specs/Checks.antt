@@ -20,11 +20,12 @@ use Rattle.apertures.specs.declared.aperture.Unit.{Unit}
 use Rattle.apertures.specs.declared.aperture.Unit.TheVariants as units
 use Rattle.apertures.specs.Figures.{Figure}
 use Rattle.apertures.specs.Placed.{placed}
-use Rattle.gerber_image.specs.InForce.{InForce, in_force, defined_under}
+use Rattle.gerber_image.specs.InForce.{InForce, in_force, defined_under, x_format, y_format}
 use Rattle.gerber_image.specs.Routes.{place_after, mode_after, is_curved, arc_centre, route}
 use Rattle.gerber_image.specs.Regions.{Outline}
 use Rattle.gerber_image.specs.Image.{figure_of, copies, outline_at, block_at, painted_by, painted_after, vertices_in}
 use Rattle.gerber_image.specs.Objects.{excess}
+use Rattle.gerber_words.specs.declared.commands.AxisFormat.{AxisFormat}
 use Rattle.gerber_words.specs.declared.commands.Format.{Format}
 use Rattle.gerber_words.specs.declared.commands.Digits.{Digits}
 use Rattle.gerber_words.specs.declared.commands.Act.{Act}
@@ -42,10 +43,14 @@ first_fault (f ∷ fs) = if f.0 then Some f.1 else first_fault fs
 
 -- Syntax.
 
+-- the digits of an axis are the same
+abbrev pub same_axis : AxisFormat → AxisFormat → Bool
+same_axis f g = (f.integer_digits == g.integer_digits) && (f.decimal_digits == g.decimal_digits)
+
 -- no format was set, or this one
 abbrev pub same_format : Format → Option Format → Bool
 same_format f None = true
-same_format f (Some g) = (f.whole == g.whole) && (f.decimals == g.decimals)
+same_format f (Some g) = same_axis f.x g.x && same_axis f.y g.y
 
 -- no unit was set, or this one
 abbrev pub same_unit : Unit → Option Unit → Bool
@@ -53,14 +58,14 @@ same_unit units.Mm (Some units.Inch) = false
 same_unit units.Inch (Some units.Mm) = false
 same_unit _ _ = true
 
--- more digits than the format has
-abbrev pub is_long : Option Format → Option Digits → Bool
-is_long (Some format) (Some digits) = nat_lt (format.whole + format.decimals) digits.count
+-- more digits than the format of the axis has
+abbrev pub is_long : Option AxisFormat → Option Digits → Bool
+is_long (Some format) (Some digits) = nat_lt (format.integer_digits + format.decimal_digits) digits.count
 is_long _ _ = false
 
 -- one of the coordinates has
 abbrev pub has_long : Option Format → Operation → Bool
-has_long format o = is_long format o.x || is_long format o.y || is_long format o.i || is_long format o.j
+has_long format o = is_long (x_format format) o.x || is_long (y_format format) o.y || is_long (x_format format) o.i || is_long (y_format format) o.j
 
 -- the text of an aperture is outside its grammar
 abbrev pub is_no_aperture : Result Figure ApertureError → Bool

@@ -15,6 +15,7 @@ use Rattle.apertures.specs.Figures.{Figure}
 use Rattle.apertures.specs.Defined.{defined}
 use Rattle.apertures.specs.Texts.{length_of}
 use Rattle.gerber_image.specs.Numbers.{nanometres}
+use Rattle.gerber_words.specs.declared.commands.AxisFormat.{AxisFormat}
 use Rattle.gerber_words.specs.declared.commands.Format.{Format}
 use Rattle.gerber_words.specs.declared.commands.Digits.{Digits}
 use Rattle.gerber_words.specs.declared.commands.Act.{Act}
@@ -117,19 +118,29 @@ abbrev pub sets_aperture : ℕ → Option Unit → List NamedMacro → Command �
 sets_aperture number unit macros (commands.Define other template) = if other == number then figure_in (defined_under unit macros template) else None
 sets_aperture number unit macros _ = None
 
--- the coordinate that digits say, by the format and the unit in force
-abbrev pub coordinate_of : Option Format → Option Unit → Option Digits → Option ℤ
-coordinate_of (Some format) (Some unit) (Some digits) = Some (nanometres format.decimals unit digits.value)
+-- the digits of X and I by a format
+abbrev pub x_format : Option Format → Option AxisFormat
+x_format (Some format) = Some format.x
+x_format None = None
+
+-- the digits of Y and J
+abbrev pub y_format : Option Format → Option AxisFormat
+y_format (Some format) = Some format.y
+y_format None = None
+
+-- the coordinate that digits say, by the format of its axis and the unit in force
+abbrev pub coordinate_of : Option AxisFormat → Option Unit → Option Digits → Option ℤ
+coordinate_of (Some format) (Some unit) (Some digits) = Some (nanometres format.decimal_digits unit digits.value)
 coordinate_of _ _ _ = None
 
 -- the x of the current point
 abbrev pub sets_x : Option Format → Option Unit → Command → Option ℤ
-sets_x format unit (commands.Operate o) = coordinate_of format unit o.x
+sets_x format unit (commands.Operate o) = coordinate_of (x_format format) unit o.x
 sets_x format unit _ = None
 
 -- its y
 abbrev pub sets_y : Option Format → Option Unit → Command → Option ℤ
-sets_y format unit (commands.Operate o) = coordinate_of format unit o.y
+sets_y format unit (commands.Operate o) = coordinate_of (y_format format) unit o.y
 sets_y format unit _ = None
 
 -- a step in whole nanometres

@@ -7,7 +7,9 @@ use Rattle.plane_arcs.specs.declared.arcs.ArcError.{ArcError}
 use Rattle.shape_parts.specs.declared.shape.Part.TheVariants.{Capsule}
 use Rattle.shape_parts.specs.declared.shape.Piece.{Piece}
 use Rattle.apertures.specs.Defined.{at, solid}
-use Rattle.gerber_image.specs.InForce.{InForce, coordinate_of}
+use Rattle.gerber_image.specs.InForce.{InForce, x_format, y_format, coordinate_of}
+use Rattle.apertures.specs.declared.aperture.Unit.{Unit}
+use Rattle.gerber_words.specs.declared.commands.AxisFormat.{AxisFormat}
 use Rattle.gerber_words.specs.declared.commands.Digits.{Digits}
 use Rattle.gerber_words.specs.declared.commands.Interpolation.{Interpolation}
 use Rattle.gerber_words.specs.declared.commands.Interpolation.TheVariants as modes
@@ -15,11 +17,11 @@ use Rattle.gerber_words.specs.declared.commands.Operation.{Operation}
 
 -- the x to which an operation leads, by what is in force
 abbrev pub x_after : InForce → Operation → ℤ
-x_after now o = unwrap_or (coordinate_of now.format now.unit o.x) now.x
+x_after now o = unwrap_or (coordinate_of (x_format now.format) now.unit o.x) now.x
 
 -- its y
 abbrev pub y_after : InForce → Operation → ℤ
-y_after now o = unwrap_or (coordinate_of now.format now.unit o.y) now.y
+y_after now o = unwrap_or (coordinate_of (y_format now.format) now.unit o.y) now.y
 
 -- the point to which it leads
 abbrev pub place_after : InForce → Operation → Point
@@ -39,13 +41,13 @@ abbrev pub turns_left : Interpolation → Bool
 turns_left modes.Counterclockwise = true
 turns_left _ = false
 
--- how far I or J leads: 0 where it isn't said
-abbrev pub offset : InForce → Option Digits → ℤ
-offset now digits = unwrap_or (coordinate_of now.format now.unit digits) (pos 0)
+-- how far I leads by the digits of X, or J by those of Y: 0 where it isn't said
+abbrev pub offset : Option AxisFormat → Option Unit → Option Digits → ℤ
+offset format unit digits = unwrap_or (coordinate_of format unit digits) (pos 0)
 
 -- the centre of an operation's arc: I and J are counted from the current point
 unfoldable pub arc_centre : InForce → Operation → Point
-arc_centre now o = at (now.x +ℤ offset now o.i) (now.y +ℤ offset now o.j)
+arc_centre now o = at (now.x +ℤ offset (x_format now.format) now.unit o.i) (now.y +ℤ offset (y_format now.format) now.unit o.j)
 
 -- the arc of an operation
 abbrev pub arc_of : InForce → Operation → Arc

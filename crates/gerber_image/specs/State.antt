@@ -12,6 +12,7 @@ use Rattle.gerber_image.specs.Regions.{no_outline}
 use Rattle.gerber_image.specs.Routes.{place_after, route}
 use Rattle.gerber_image.specs.Image.{outline_after, block_after, painted_after, copies, figure_of}
 use Rattle.gerber_image.specs.Checks.{Held, fault_of, is_outside, excess_of, is_open, is_far, is_flash, draw_leaves, flash_leaves}
+use Rattle.gerber_words.specs.Fits.{IsFormat}
 use Rattle.gerber_words.specs.declared.commands.Interpolation.TheVariants as modes
 use Rattle.gerber_words.specs.declared.commands.Act.{Act}
 use Rattle.gerber_words.specs.declared.commands.Operation.{Operation}
@@ -98,7 +99,7 @@ pub record IsRepeat (r : Repeat) : Type 0 where
 -- what holds before each command
 pub record IsReady (h : Held) : Type 0 where
   pub within : excess_of h.painted ≡ None
-  pub format : MatchOption h.now.format ⊤ (λ f. (f.whole ≤ 6) × (f.decimals ≤ 6))
+  pub format : IfSome h.now.format IsFormat
   pub repeat : IfSome h.now.repeat IsRepeat
   pub here : IsPlace (at h.now.x h.now.y)
 

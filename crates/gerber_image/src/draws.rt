@@ -9,7 +9,7 @@ ghost use Rattle.gerber_image.specs.Routes.{x_after, y_after, place_after, mode_
 ghost use Rattle.gerber_image.specs.Checks.{has_long, is_draw, is_far, is_open, is_past, draw_leaves};
 ghost use Rattle.gerber_image.specs.State.{held_of, IsReady, Stops, route_fault};
 
-use crate::numbers::{coordinate, is_far, point, short_coordinate};
+use crate::numbers::{coordinate, is_far, point, short_coordinate, x_format, y_format};
 use crate::refusal::GerberKind;
 use crate::state::{State, Stop};
 use board_base::Point;
@@ -71,8 +71,8 @@ impl State {
         ensures { MatchOption result (is_far (place_after (held_of self.now).now o) ≡ true)
             (λ p. (is_far (place_after (held_of self.now).now o) ≡ false) × (p ≡ place_after (held_of self.now).now o) × IsPlace p) }
     {
-        let x = coordinate(self.format, self.unit, o.x, self.here.x);
-        let y = coordinate(self.format, self.unit, o.y, self.here.y);
+        let x = coordinate(x_format(self.format), self.unit, o.x, self.here.x);
+        let y = coordinate(y_format(self.format), self.unit, o.y, self.here.y);
         point(x, y)
     }
 
@@ -88,11 +88,11 @@ impl State {
         Point {
             x: plus(
                 self.here.x,
-                short_coordinate(self.format, self.unit, o.i, 0),
+                short_coordinate(x_format(self.format), self.unit, o.i, 0),
             ),
             y: plus(
                 self.here.y,
-                short_coordinate(self.format, self.unit, o.j, 0),
+                short_coordinate(y_format(self.format), self.unit, o.j, 0),
             ),
         }
     }
@@ -106,8 +106,8 @@ impl State {
         ensures size { IsArcPlace result }
     {
         Point {
-            x: short_coordinate(self.format, self.unit, o.x, self.here.x),
-            y: short_coordinate(self.format, self.unit, o.y, self.here.y),
+            x: short_coordinate(x_format(self.format), self.unit, o.x, self.here.x),
+            y: short_coordinate(y_format(self.format), self.unit, o.y, self.here.y),
         }
     }
 

@@ -4,14 +4,14 @@ ghost use Rattle.apertures.specs.Texts.{IsSize};
 ghost use Rattle.board_base.specs.Places.{IsPlace};
 ghost use Rattle.apertures.specs.Defined.{at};
 ghost use Rattle.gerber_image.specs.Checks.{is_far as is_far_of, is_long};
-ghost use Rattle.gerber_words.specs.Fits.{IsWritten};
+ghost use Rattle.gerber_words.specs.Fits.{IsAxisFormat, IsFormat, IsWritten};
 ghost use Rattle.gerber_image.specs.Numbers.{unit_size as unit_size_of, nanometres as nanometres_of};
-ghost use Rattle.gerber_image.specs.InForce.{coordinate_of, step_length as step_length_of};
+ghost use Rattle.gerber_image.specs.InForce.{x_format as x_format_of, y_format as y_format_of, coordinate_of, step_length as step_length_of};
 
 use apertures::{Unit, length_of};
 use board_base::Point;
 use fixed_num::round_div;
-use gerber_words::{Digits, Format};
+use gerber_words::{AxisFormat, Digits, Format};
 use plane_arcs::point_at;
 
 // The nanometres of a unit.
@@ -51,25 +51,49 @@ fn nanometres(decimals: u32, unit: Unit, value: i64) -> i128
     round_div(value as i128 * unit_size(unit), power(decimals))
 }
 
-// Where digits lead by a format and a unit, in nanometres: no further than 25,400,000,000,000 where the format has them.
-fn written(format: Format, unit: Unit, digits: Digits) -> i128
-    requires whole { format.whole ≤ 6 }
-    requires decimals { format.decimals ≤ 6 }
-    ensures value { result ≡ nanometres_of format.decimals unit digits.value }
-    ensures size { IsWritten digits → is_long (Some format) (Some digits) ≡ false → unsigned_abs result ≤ 25400000000000 }
+/// The digits of X and I by a format.
+pub fn x_format(format: Option<Format>) -> Option<AxisFormat>
+    requires { IfSome format IsFormat }
+    ensures value { result ≡ x_format_of format }
+    ensures fits { IfSome result IsAxisFormat }
 {
-    nanometres(format.decimals, unit, digits.value)
+    match format {
+        Some(format) => Some(format.x),
+        None => None,
+    }
 }
 
-/// Where digits lead by the format and the unit, in nanometres; without one of them it is `last`. Digits that the format
+/// The digits of Y and J.
+pub fn y_format(format: Option<Format>) -> Option<AxisFormat>
+    requires { IfSome format IsFormat }
+    ensures value { result ≡ y_format_of format }
+    ensures fits { IfSome result IsAxisFormat }
+{
+    match format {
+        Some(format) => Some(format.y),
+        None => None,
+    }
+}
+
+// Where digits lead by the format of their axis and a unit, in nanometres: no further than 25,400,000,000,000 where the format has them.
+fn written(format: AxisFormat, unit: Unit, digits: Digits) -> i128
+    requires whole { format.integer_digits ≤ 6 }
+    requires decimals { format.decimal_digits ≤ 6 }
+    ensures value { result ≡ nanometres_of format.decimal_digits unit digits.value }
+    ensures size { IsWritten digits → is_long (Some format) (Some digits) ≡ false → unsigned_abs result ≤ 25400000000000 }
+{
+    nanometres(format.decimal_digits, unit, digits.value)
+}
+
+/// Where digits lead by the format of their axis and the unit, in nanometres; without one of them it is `last`. Digits that the format
 /// has lead no further than 25,400,000,000,000 nm.
 pub fn coordinate(
-    format: Option<Format>,
+    format: Option<AxisFormat>,
     unit: Option<Unit>,
     digits: Option<Digits>,
     last: i64,
 ) -> i128
-    requires { MatchOption format ⊤ (λ f. (f.whole ≤ 6) × (f.decimals ≤ 6)) }
+    requires { IfSome format IsAxisFormat }
     ensures value { result ≡ unwrap_or (coordinate_of format unit digits) last }
     ensures size { IfSome digits IsWritten → is_long format digits ≡ false → unsigned_abs last ≤ 500000000 → unsigned_abs result ≤ 25400000000000 }
 {
@@ -90,12 +114,12 @@ fn short(v: i128) -> i64
 
 /// The same of digits that the format has, from a place or from nothing.
 pub fn short_coordinate(
-    format: Option<Format>,
+    format: Option<AxisFormat>,
     unit: Option<Unit>,
     digits: Option<Digits>,
     last: i64,
 ) -> i64
-    requires format { MatchOption format ⊤ (λ f. (f.whole ≤ 6) × (f.decimals ≤ 6)) }
+    requires format { IfSome format IsAxisFormat }
     requires written { IfSome digits IsWritten }
     requires few { is_long format digits ≡ false }
     requires last { unsigned_abs last ≤ 500000000 }

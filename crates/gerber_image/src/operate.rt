@@ -1,24 +1,24 @@
 // Operations.
-ghost use Rattle.std.specs.Prelude.{◌≡◌, ◌<◌, ◌≤◌, ◌+◌, ◌^◌, ◌||◌, ◌&&◌, ◌⊎◌, ◌∷◌, [], pos, length, MatchOption, MatchResult, false, true, not, is_some, is_none, Some, None, Ok, ⊤, if◌then◌else◌, IfErr, IfOk, OnOk, ◌++◌};
+ghost use Rattle.std.specs.Prelude.{◌≡◌, ◌<◌, ◌≤◌, ◌+◌, ◌^◌, ◌||◌, ◌&&◌, ◌⊎◌, ◌∷◌, [], pos, length, MatchOption, MatchResult, IfSome, false, true, not, is_some, is_none, Some, None, Ok, ⊤, if◌then◌else◌, IfErr, IfOk, OnOk, ◌++◌};
 ghost use Rattle.std.specs.List.{All};
 ghost use Rattle.std.specs.Option.{option_or};
 ghost use Rattle.board_base.specs.Places.{IsPlace};
 ghost use Rattle.shape_parts.specs.Parts.{IsWidth};
 ghost use Rattle.apertures.specs.Placed.{placed};
 ghost use Rattle.gerber_words.specs.declared.commands.Command.TheVariants.{Operate};
-ghost use Rattle.gerber_words.specs.Fits.{AreWritten};
+ghost use Rattle.gerber_words.specs.Fits.{AreWritten, IsAxisFormat, IsFormat};
 ghost use Rattle.gerber_image.specs.Routes.{place_after, mode_after, route, strokes as strokes_of};
 ghost use Rattle.gerber_image.specs.Image.{figure_of, stroked, flashed, acted};
 ghost use Rattle.gerber_image.specs.Checks.{is_long as is_long_of, has_long as has_long_of, is_draw, is_flash, wants_aperture as wants_aperture_of, is_short_arc, lacks_stroke as lacks_stroke_of, opens_arc, leaves_range, first_fault_of, excess_of};
 ghost use Rattle.gerber_image.specs.State.{held_of, listed, IsReady, Stops, Steps, flash_fault};
 
 use crate::draws::{Reached, is_curved};
-use crate::numbers::both;
+use crate::numbers::{both, x_format, y_format};
 use crate::refusal::GerberKind;
 use crate::state::{State, Stop};
 use apertures::{Aperture, ApertureError, shape_at, stroke};
 use board_base::Point;
-use gerber_words::{Act, Digits, Format, Interpolation, Operation};
+use gerber_words::{Act, AxisFormat, Digits, Format, Interpolation, Operation};
 use shape_parts::{Painted, Part, Shape};
 use std::alloc::{AllocError, Global};
 
@@ -31,23 +31,26 @@ pub struct Effect {
     pub object: Option<Painted>,
 }
 
-// Whether these are more digits than the format has.
-fn is_long(format: Option<Format>, digits: Option<Digits>) -> bool
-    requires { MatchOption format ⊤ (λ f. (f.whole ≤ 6) × (f.decimals ≤ 6)) }
+// Whether these are more digits than the format of the axis has.
+fn is_long(format: Option<AxisFormat>, digits: Option<Digits>) -> bool
+    requires { IfSome format IsAxisFormat }
     ensures { result ≡ is_long_of format digits }
 {
     match (format, digits) {
-        (Some(format), Some(digits)) => ((format.whole + format.decimals) as usize) < digits.count,
+        (Some(format), Some(digits)) => ((format.integer_digits + format.decimal_digits) as usize)
+            < digits.count,
         _ => false,
     }
 }
 
 // Whether one of the coordinates has more.
 fn has_long(format: Option<Format>, o: Operation) -> bool
-    requires { MatchOption format ⊤ (λ f. (f.whole ≤ 6) × (f.decimals ≤ 6)) }
+    requires { IfSome format IsFormat }
     ensures { result ≡ has_long_of format o }
 {
-    is_long(format, o.x) || is_long(format, o.y) || is_long(format, o.i) || is_long(format, o.j)
+    let x = x_format(format);
+    let y = y_format(format);
+    is_long(x, o.x) || is_long(y, o.y) || is_long(x, o.i) || is_long(y, o.j)
 }
 
 // Whether there is a coordinate.

@@ -1,13 +1,20 @@
 // Settings.
 ghost use Rattle.std.specs.Prelude.{◌≡◌, ◌<◌, false, true, Some, None, Ok, Err, if◌then◌else◌};
-ghost use Rattle.gerber_image.specs.Checks.{same_format, same_unit};
+ghost use Rattle.gerber_image.specs.Checks.{same_axis, same_format, same_unit};
 ghost use Rattle.gerber_image.specs.State.{held_of, IsReady, Steps};
 
 use crate::numbers::both;
 use crate::refusal::GerberKind;
 use crate::state::{State, Stop};
 use apertures::{Mirror, Unit};
-use gerber_words::{Command, Format, Interpolation};
+use gerber_words::{AxisFormat, Command, Format, Interpolation};
+
+// Whether the digits of an axis are the same.
+fn is_same_axis(format: AxisFormat, old: AxisFormat) -> bool
+    ensures { result ≡ same_axis format old }
+{
+    format.integer_digits == old.integer_digits && format.decimal_digits == old.decimal_digits
+}
 
 // Whether no format was set, or this one.
 fn is_same_format(format: Format, old: Option<Format>) -> bool
@@ -15,7 +22,7 @@ fn is_same_format(format: Format, old: Option<Format>) -> bool
 {
     match old {
         None => true,
-        Some(old) => format.whole == old.whole && format.decimals == old.decimals,
+        Some(old) => is_same_axis(format.x, old.x) && is_same_axis(format.y, old.y),
     }
 }
 

@@ -26,6 +26,15 @@ step_in (Err e) = None
 unfoldable pub step_of : List ℕ → Option ℕ
 step_of text = step_in (cut_at 9 text)
 
+-- the numbers of columns and rows, and the steps from column to column and from row to row
+abbrev pub opened_by : List ℕ → List ℕ → List ℕ → List ℕ → Option Command
+opened_by columns_text rows_text x_step_text y_step_text = do
+  columns ← count_of columns_text
+  rows ← count_of rows_text
+  dx ← step_of x_step_text
+  dy ← step_of y_step_text
+  Some (commands.OpenRepeat columns rows dx dy)
+
 -- counts and steps: X, Y, I and J in this order
 unfoldable pub open_of : List ℕ → Option Command
 open_of text = do
@@ -33,11 +42,7 @@ open_of text = do
   round_y ← halves 89 behind_x
   round_i ← halves 73 round_y.1
   round_j ← halves 74 round_i.1
-  columns ← count_of round_y.0
-  rows ← count_of round_i.0
-  dx ← step_of round_j.0
-  dy ← step_of round_j.1
-  Some (commands.OpenRepeat columns rows dx dy)
+  opened_by round_y.0 round_i.0 round_j.0 round_j.1
 
 -- SR alone, or with counts and steps
 abbrev pub repeat_in : List ℕ → Option Command

@@ -20,10 +20,13 @@ use Rattle.gerber_words.specs.declared.commands.Command.TheVariants as commands
 abbrev pub is_count : ℕ → ℕ → Bool
 is_count first b = nat_le first b && nat_le b 54
 
--- one to six whole digits and two to six decimals, the same of both coordinates
+-- one to six integer digits and two to six decimals of X, and then of Y
 abbrev pub counts_of : List ℕ → Option Command
 counts_of (n ∷ m ∷ y ∷ k ∷ l ∷ []) =
-    if is_count 49 n && is_count 50 m && (y == 89) && (k == n) && (l == m) then Some (commands.Format (record { whole = n - 48; decimals = m - 48 }))
+    if is_count 49 n && is_count 50 m && (y == 89) && is_count 49 k && is_count 50 l then Some (commands.Format (record {
+      x = record { integer_digits = n - 48; decimal_digits = m - 48 };
+      y = record { integer_digits = k - 48; decimal_digits = l - 48 };
+    }))
     else None
 counts_of _ = None
 
@@ -39,7 +42,7 @@ is_other_letter b = is_ascii_uppercase b && not ((b == 76) || (b == 65) || (b ==
 abbrev pub is_other_format : List ℕ → Bool
 is_other_format text = list_all is_capital_or_digit text && list_any is_other_letter text
 
--- absolute coordinates without leading zeros, and the digits of both
+-- absolute coordinates without leading zeros, and the digits of X and Y
 abbrev pub known_format : List ℕ → Option Command
 known_format text = do
   counts ← after (codes "LAX") text

@@ -5,11 +5,20 @@ use std::marker::Model;
 
 /// How many digits of a coordinate stand before and behind the point (section 4.2, FS).
 #[derive(Clone, Copy, Debug, PartialEq, Eq)]
-pub struct Format {
+pub struct AxisFormat {
     /// From 1 to 6.
-    pub whole: u32,
+    pub integer_digits: u32,
     /// From 2 to 6.
-    pub decimals: u32,
+    pub decimal_digits: u32,
+}
+
+/// The digits of coordinates (section 4.2, FS).
+#[derive(Clone, Copy, Debug, PartialEq, Eq)]
+pub struct Format {
+    /// Of X and I.
+    pub x: AxisFormat,
+    /// Of Y and J.
+    pub y: AxisFormat,
 }
 
 /// The digits of a coordinate (section 4.2).

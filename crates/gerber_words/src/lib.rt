@@ -13,5 +13,7 @@ mod settings;
 mod texts;
 mod words;
 
-pub use commands::{Act, ApertureText, Command, Digits, Format, Interpolation, Operation};
+pub use commands::{
+    Act, ApertureText, AxisFormat, Command, Digits, Format, Interpolation, Operation,
+};
 pub use texts::read_command;

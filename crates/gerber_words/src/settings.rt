@@ -5,7 +5,7 @@ ghost use Rattle.fixed_num.specs.Angles.{in_turn as in_turn_of};
 ghost use Rattle.gerber_words.specs.Fits.{IsCommand};
 ghost use Rattle.gerber_words.specs.Settings.{counts_of, is_count as is_count_in, is_capital_or_digit as is_capital_or_digit_in, is_other_letter as is_other_letter_in, is_other_format as is_other_format_in, known_format as known_format_of, format_in, format_of, unit_of, polarity_of, mirror_of, rotation_of, scale_of};
 
-use crate::commands::{Command, Format};
+use crate::commands::{AxisFormat, Command, Format};
 use apertures::{Mirror, Unit};
 use fixed_num::{NumError, cut_decimal, read_decimal};
 use text_cut::after;
@@ -17,14 +17,14 @@ fn is_count(first: u8, b: u8) -> bool
     first <= b && b <= b'6'
 }
 
-// Whether the digits of both coordinates are the same.
+// Whether these count the digits of X and those of Y.
 fn are_counts(n: u8, m: u8, k: u8, l: u8) -> bool
-    ensures { result ≡ (is_count_in 49 n && is_count_in 50 m && (k == n) && (l == m)) }
+    ensures { result ≡ (is_count_in 49 n && is_count_in 50 m && is_count_in 49 k && is_count_in 50 l) }
 {
-    is_count(b'1', n) && is_count(b'2', m) && k == n && l == m
+    is_count(b'1', n) && is_count(b'2', m) && is_count(b'1', k) && is_count(b'2', l)
 }
 
-// One to six whole digits and two to six decimals, the same of both coordinates.
+// One to six integer digits and two to six decimals of X, and then of Y.
 fn counts(text: &[u8]) -> Option<Command>
     ensures value { result ≡ counts_of text.now }
     ensures fits { IfSome result IsCommand }
@@ -34,8 +34,14 @@ fn counts(text: &[u8]) -> Option<Command>
             if are_counts(*n, *m, *k, *l) {
                 Some(Command::Format {
                     format: Format {
-                        whole: (*n - b'0') as u32,
-                        decimals: (*m - b'0') as u32,
+                        x: AxisFormat {
+                            integer_digits: (*n - b'0') as u32,
+                            decimal_digits: (*m - b'0') as u32,
+                        },
+                        y: AxisFormat {
+                            integer_digits: (*k - b'0') as u32,
+                            decimal_digits: (*l - b'0') as u32,
+                        },
                     },
                 })
             } else {
