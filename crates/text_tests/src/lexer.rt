@@ -3,12 +3,7 @@ use gerber_lexer::{LexError, Span, next_command};
 use std::process::Abort;
 
 // The commands one after another, from the first byte on, and what is found behind them.
-fn finds(
-    rt: &impl Abort,
-    bytes: &[u8],
-    commands: &[Span],
-    last: Result<Option<Span>, LexError>,
-) {
+fn finds(rt: &impl Abort, bytes: &[u8], commands: &[Span], last: Result<Option<Span>, LexError>) {
     let mut at = 0;
     let mut inside = false;
     for command in commands {
@@ -91,12 +86,7 @@ fn commands_of_a_block(rt: HostRuntime) {
         extended(6, 21, false, 24),
         word(24, 27, 28),
     ];
-    finds(
-        &rt,
-        b"%LPD*\nA\nMA*\n1,1,1,0,0*\n%D10*",
-        &macros,
-        Ok(None),
-    );
+    finds(&rt, b"%LPD*\nA\nMA*\n1,1,1,0,0*\n%D10*", &macros, Ok(None));
 }
 
 #[test]
