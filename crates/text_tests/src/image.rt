@@ -104,6 +104,19 @@ fn inches_turns_and_kept_values(rt: HostRuntime) {
     paints(&rt, rt.alloc(), turned, &[(Some(upright), true)]);
 }
 
+#[test]
+fn axes_with_other_digits(rt: HostRuntime) {
+    // A flash 2 mm to the east and 3 mm to the north; whole circles round centres 1 mm to the east and 1 mm to the north.
+    let bytes = b"%FSLAX46Y35*%%MOMM*%%ADD10C,0.2*%D10*X2000000Y300000D03*\
+        G75*X0Y0D02*G03I1000000D01*J100000D01*M02*";
+    let expected = [
+        disc(2_000_000, 3_000_000, 200, true),
+        disc(1_000_000, 0, 2200, true),
+        disc(0, 1_000_000, 2200, true),
+    ];
+    paints(&rt, rt.alloc(), bytes, &expected);
+}
+
 // A file paints one object, whose areas have so many vertices, in this rectangle.
 fn paints_one(
     rt: &impl Abort,
@@ -208,6 +221,11 @@ fn commands_that_are_refused(rt: HostRuntime) {
         (b"%LS*%", GerberKind::Syntax, 1),
         (b"%FSLAX77Y46*%", GerberKind::Syntax, 1),
         (b"%FSLAX46Y46*%X12345678901D02*", GerberKind::Syntax, 13),
+        (
+            b"%FSLAX46Y35*%X1234567890Y123456789D02*",
+            GerberKind::Syntax,
+            13,
+        ),
         (b"%MOMM*%%ADD10C,-1*%", GerberKind::Syntax, 8),
         (b"G37*", GerberKind::Syntax, 0),
         (b"G36*%SR*%", GerberKind::Syntax, 5),
