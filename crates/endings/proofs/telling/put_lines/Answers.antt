@@ -9,17 +9,17 @@ returns-in_err-put-clause-prefix g c =
     let state = g.K.Sink.state in
     passed_on _ c.put.result c.in_err-put.field-0.0 c.from_residual.result c.in_err-put.was
     (put_failed c.put.result c.args.lines.now c.loop-at.start _ (state c.args.out.now).text (state c.loop-at.out).text (state c.put.new.self).text
-      (between_on c.args.lines.now c.loop-at.start (c.loop-at.at + 1) (omega (arith, c.loop-at.invariant.start))) c.loop-at.invariant.text c.put.ensures.prefix c.put.ensures.memory)
+    (between_on c.args.lines.now c.loop-at.start (c.loop-at.at + 1) (omega (arith, c.loop-at.invariant.start))) c.loop-at.invariant.text c.put.ensures.prefix c.put.ensures.memory)
 
 pub loop-at-preserved : goal.loop-at-preserved
 loop-at-preserved g c =
     let state = g.K.Sink.state in
     elim c.if-lines-at-eq10.branch [
-      then-lines-at-eq10+in_ok-put w ↦ record {
+      | then-lines-at-eq10+in_ok-put w ↦ record {
         start = search rules;
         text = ap (λ o. (state o).text) w.out-is
             ∙ one_more c.args.lines.now c.loop-at.start (c.loop-at.at + 1) (state c.args.out.now).text (state c.loop-at.out).text (state w.put.new.self).text
-                (omega (arith, c.loop-at.invariant.start)) c.loop-at.invariant.text w.in_ok-put.ensures.ok
+            (omega (arith, c.loop-at.invariant.start)) c.loop-at.invariant.text w.in_ok-put.ensures.ok
             ∙ ap (λ k. appended (take k c.args.lines.now) (state c.args.out.now).text) (sym w.start-is);
         faults = search rules;
       }
