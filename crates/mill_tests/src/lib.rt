@@ -1,34 +1,14 @@
-//! Tests of commands on shelves and sinks in memory: what no clause says of words and boards that were worked out by
-//! hand. They stand here and not in the crates that they call, which so are proved once. Anything may be added; nothing
-//! is built on this crate.
+//! Tests of sides that are milled, on shelves and sinks in memory: what no clause says of words and boards that were
+//! worked out by hand. They stand here and not in the crates that they call, which so are proved once. Anything may be
+//! added; nothing is built on this crate.
 #![tactic(auto)]
 
 #[cfg(test)]
-mod check_refusals;
-#[cfg(test)]
-mod checks;
-#[cfg(test)]
-mod drill_files;
-#[cfg(test)]
 mod faults;
-#[cfg(test)]
-mod holes;
-#[cfg(test)]
-mod levels;
 #[cfg(test)]
 mod lines;
 #[cfg(test)]
-mod outlines;
-#[cfg(test)]
-mod prefixes;
-#[cfg(test)]
-mod samples;
-#[cfg(test)]
 mod sides;
-#[cfg(test)]
-mod simulations;
-#[cfg(test)]
-mod tiles;
 #[cfg(test)]
 mod whole_boards;
 #[cfg(test)]

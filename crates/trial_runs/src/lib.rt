@@ -4,6 +4,7 @@
 
 mod boards;
 mod commands;
+mod programs;
 
 pub use boards::{
     CONTOUR_THROUGH_A_CORNER, HOLE_WITH_A_LONE_PAD, JOINED_REGIONS, NEAR_DISCS, ONE_DISC, POINT,
@@ -13,3 +14,4 @@ pub use commands::{
     WORDS, carried_out, shelf_with, two_discs, watched, watched_with_a_put_that_fails,
     with_a_put_that_fails,
 };
+pub use programs::{CUTS_OF_TWO_DISCS, FINE, FOOT, HEAD, USUAL};

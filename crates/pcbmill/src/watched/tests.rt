@@ -57,5 +57,5 @@ fn refusals_have_their_numbers_and_lines(rt: HostRuntime) -> Result<(), Fail> {
 fn want_of_memory_for_the_words_has_its_line(rt: HostRuntime) {
     let mut sink = MemorySink::new(rt.alloc());
     assert_eq!(rt; ending(Err(AllocError), &mut sink), ExitCode::from(12));
-    assert_eq!(rt; sink.bytes(), b"pcbmill: memory\n");
+    assert_eq!(rt; sink.bytes(), b"pcbmill: memory\n".as_slice());
 }

@@ -1,11 +1,10 @@
 // Boards in several tiles.
 use crate::holes::HOLES_AND_A_ROUTED_SLOT;
-use crate::sides::{FOOT, HEAD};
 use board_base::MemoryShelf;
 use mill_top::{LimitHit, Status};
 use std::alloc::Global;
 use std::test::Fail;
-use trial_runs::{WORDS, carried_out, shelf_with, two_discs};
+use trial_runs::{FOOT, HEAD, WORDS, carried_out, shelf_with, two_discs};
 
 // The cut round a disc, from its west column to its east column; the rows are those of two discs.
 fn square(alloc: Global, west: &str, east: &str) -> Result<String, Fail> {

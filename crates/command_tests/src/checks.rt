@@ -1,13 +1,12 @@
 // Programs that are checked against a layer, as `mill` wrote them, edited by hand, and by other tools.
-use crate::sides::{CUTS_OF_TWO_DISCS, FINE, FOOT, HEAD, USUAL};
 use crate::simulations::FOUR_PROBES;
 use board_base::{MemoryShelf, Role};
 use mill_top::{NgcOrSim, SimFault, Status};
 use std::alloc::Global;
 use std::test::Fail;
 use trial_runs::{
-    JOINED_REGIONS, NEAR_DISCS, SEPARATED_REGIONS, TWO_DISCS, carried_out, shelf_with, two_discs,
-    with_a_put_that_fails,
+    CUTS_OF_TWO_DISCS, FINE, FOOT, HEAD, JOINED_REGIONS, NEAR_DISCS, SEPARATED_REGIONS, TWO_DISCS,
+    USUAL, carried_out, shelf_with, two_discs, with_a_put_that_fails,
 };
 
 // The words of a check of two discs.
@@ -38,7 +37,7 @@ fn checked(
     second: &str,
 ) -> Result<(Status, Vec<u8>), Fail> {
     let program = format!(in alloc; "{HEAD}{first}{second}{FOOT}")?;
-    carried_out(alloc, words, &mut shelf_of(alloc, TWO_DISCS, &program)?)
+    Ok(carried_out(alloc, words, &mut shelf_of(alloc, TWO_DISCS, &program)?)?)
 }
 
 // Round the first disc, and with a corner that was moved over it.

@@ -1,13 +1,12 @@
 // Programs that are simulated: what watchers find, what probes answer, and what is refused.
 ghost use Rattle.std.specs.Prelude.{◌≡◌, None};
 
-use crate::sides::{CUTS_OF_TWO_DISCS, FOOT, HEAD};
 use board_base::{MemoryShelf, Move, Role};
 use mill_top::{NgcKind, NgcOrSim, SimFault, Status};
 use move_watch::{DepthFloor, Limits, Watcher, breaks};
 use std::alloc::Global;
 use std::test::Fail;
-use trial_runs::{WORDS, carried_out, two_discs, watched};
+use trial_runs::{CUTS_OF_TWO_DISCS, FOOT, HEAD, WORDS, carried_out, two_discs, watched};
 
 const SIMULATE: [&str; 2] = ["simulate", "front.ngc"];
 
