@@ -1,9 +1,9 @@
 -- How many vertices objects and contours have.
-use Rattle.std.proofs.Common.{◌≡◌, refl, ℕ, zero, suc, ◌+◌, ◌*◌, ◌<◌, ◌≤◌, ◌^◌, pos, ℤ, List, [], ◌∷◌, ◌++◌, length, map, Bool, true, false, Option, Some, None, ap, sym, ◌∙◌, arith, nat_le}
+use Rattle.std.proofs.Common.{◌≡◌, refl, ℕ, zero, suc, ◌+◌, ◌*◌, ◌<◌, ◌≤◌, ◌^◌, pos, ℤ, List, [], ◌∷◌, ◌++◌, length, map, Bool, true, false, Option, Some, None, ap, sym, ◌∙◌, arith, nat_le, get_or, take, ◌⊎◌, inl, inr}
 use Rattle.std.specs.Prelude.{if◌then◌else◌, nat_lt, is_none}
 use Rattle.std.specs.List.{flat_map, range_with_len}
-use Rattle.std.proofs.lemmas.List.{length-append}
-use Rattle.std.proofs.lemmas.List.Sums.{sum_by-cons}
+use Rattle.std.proofs.lemmas.List.{length-append, append-nil}
+use Rattle.std.proofs.lemmas.List.Sums.{sum_by-cons, sum_by-append}
 use Rattle.number_laws.proofs.Tests.{by_bool}
 use Rattle.board_base.specs.declared.places.Point.{Point}
 use Rattle.poly_area.specs.Area.{edges_along, loop_edges, edges_of}
@@ -23,6 +23,9 @@ use Rattle.gerber_image.specs.declared.refusal.GerberKind.TheVariants as kinds
 use Rattle.gerber_image.specs.declared.repeat.Repeat.{Repeat}
 
 -- ---- objects one after the other
+
+pub vertices_of-append : (xs ys : List Piece) → vertices_of (xs ++ ys) ≡ vertices_of xs + vertices_of ys
+vertices_of-append xs ys = sum_by-append (λ (q : Piece). part_vertices q.part) xs ys
 
 pub vertices_in-append : (xs ys : List Painted) → vertices_in (xs ++ ys) ≡ vertices_in xs + vertices_in ys
 vertices_in-append [] ys = omega arith
@@ -150,6 +153,17 @@ contour_corners contour points n e c h =
     let same : length (without_return contour) ≡ n = rw (sym e) (sym c) in
     sym (corners (without_return contour) ∙ ap (λ b. if b then length (without_return contour) else 0) three ∙ same)
 
+-- the kept points of a contour whose area has few corners
+pub few_points : (contour points : List Point) (n : ℕ) → points ≡ contour → n ≡ length (without_return points) → 3 ≤ n → vertices_of (area_of contour) ≤ 4194304 → length (take n points) ≤ 4194304
+few_points contour points n e c h few =
+    let count : n ≡ vertices_of (area_of contour) = contour_corners contour points n e c h in
+    omega (arith, count, few, take_length n points)
+  where
+    take_length : {A : Type 0} (m : ℕ) (xs : List A) → length (take m xs) ≤ m
+    take_length zero xs = omega arith
+    take_length (suc m) [] = omega arith
+    take_length (suc m) (x ∷ xs) = omega (arith, take_length m xs)
+
 -- ---- what there is too much of
 
 -- with one object more
@@ -177,9 +191,64 @@ pub added_one : (painted block new : List Painted) (object : Painted) (given : O
 added_one painted block new object given repeat vertices found g r v e f n =
     rw (g, r) (refl, n, ap excess_of n ∙ sym (one_excess painted object) ∙ ap (λ m. excess (length painted + 1) (vertices_in painted + m)) (sym v) ∙ sym e ∙ f)
 
--- a region that is too much
-pub region_full : (painted : List Painted) (contours : List (List Point)) (dark : Bool) (repeat : Option Repeat) (corners : ℕ) (kind : GerberKind) (found : Option GerberKind)
-    → is_none repeat ≡ true → corners ≡ vertices_of (flat_map area_of contours) → found ≡ excess (length painted + 1) (vertices_in painted + corners) → found ≡ Some kind
-    → (if is_none repeat then excess_of (painted ++ record { shape = flat_map area_of contours; dark = dark } ∷ []) else None) ≡ Some kind
-region_full painted contours dark repeat corners kind found r v e f =
-    rw r (sym (one_excess painted (record { shape = flat_map area_of contours; dark = dark })) ∙ ap (λ n. excess (length painted + 1) (vertices_in painted + n)) (sym v) ∙ sym e ∙ f)
+-- what there is too much of with a region
+pub region_excess : (painted : List Painted) (contours : List (List Point)) (dark : Bool) (corners : ℕ) (found : Option GerberKind)
+    → corners ≡ vertices_of (flat_map area_of contours) → found ≡ excess (length painted + 1) (vertices_in painted + corners)
+    → excess_of (painted ++ record { shape = flat_map area_of contours; dark = dark } ∷ []) ≡ found
+region_excess painted contours dark corners found v e =
+    sym (one_excess painted (record { shape = flat_map area_of contours; dark = dark })) ∙ ap (λ n. excess (length painted + 1) (vertices_in painted + n)) (sym v) ∙ sym e
+
+-- what isn't too much has few vertices
+pub few_vertices : (objects vertices : ℕ) → excess objects vertices ≡ None → vertices ≤ 4194304
+few_vertices objects vertices e = by_bool (nat_lt (2 ^ 20) objects)
+    (λ t.
+    let bad : ◌≡◌ {A = Option GerberKind} (Some kinds.TooManyObjects) None = sym (ap (λ b. if b then Some kinds.TooManyObjects else if nat_lt (2 ^ 22) vertices then Some kinds.TooManyVertices else None) t) ∙ e in
+    absurd cc)
+    (λ f.
+    let rest : ◌≡◌ {A = Option GerberKind} (if nat_lt (2 ^ 22) vertices then Some kinds.TooManyVertices else None) None = sym (ap (λ b. if b then Some kinds.TooManyObjects else if nat_lt (2 ^ 22) vertices then Some kinds.TooManyVertices else None) f) ∙ e in
+    by_bool (nat_lt (2 ^ 22) vertices)
+    (λ t. let bad : ◌≡◌ {A = Option GerberKind} (Some kinds.TooManyVertices) None = sym (ap (λ b. if b then Some kinds.TooManyVertices else None) t) ∙ rest in absurd cc)
+    (λ g. grind (arith, g)))
+
+-- a contour has no more corners than all of them
+pub one_contour : (contours : List (List Point)) (i : ℕ) (d : List Point) → i < length contours → vertices_of (area_of (get_or contours i d)) ≤ vertices_of (flat_map area_of contours)
+one_contour [] i d h = absurd (omega (arith, h))
+one_contour (c ∷ contours) zero d h = rw (vertices_of-append (area_of c) (flat_map area_of contours)) (omega arith)
+one_contour (c ∷ contours) (suc i) d h = rw (vertices_of-append (area_of c) (flat_map area_of contours)) (omega (arith, one_contour contours i d (omega (arith, h))))
+
+-- an object has no more vertices than all of them
+pub one_object : (objects : List Painted) (i : ℕ) (d : Painted) → i < length objects → vertices_of (get_or objects i d).shape ≤ vertices_in objects
+one_object [] i d h = absurd (omega (arith, h))
+one_object (o ∷ objects) zero d h = omega arith
+one_object (o ∷ objects) (suc i) d h = omega (arith, one_object objects i d (omega (arith, h)))
+
+-- a block has no more vertices than what is painted with its copies
+pub few_in_block : (painted block : List Painted) (r : Repeat) → 0 < r.columns → 0 < r.rows → excess_of (painted ++ copies_of r block) ≡ None → vertices_in block ≤ 4194304
+few_in_block painted block r hc hr e =
+    let few : vertices_in (painted ++ copies_of r block) ≤ 4194304 = few_vertices (length (painted ++ copies_of r block)) (vertices_in (painted ++ copies_of r block)) e in
+    let all : vertices_in (painted ++ copies_of r block) ≡ vertices_in painted + r.columns * (r.rows * vertices_in block) = vertices_in-append painted (copies_of r block) ∙ ap (λ n. vertices_in painted + n) (vertices_in_copies r block) in
+    omega (arith, few, all, times r.columns (r.rows * vertices_in block) hc, times r.rows (vertices_in block) hr)
+  where
+    times : (n m : ℕ) → 0 < n → m ≤ n * m
+    times zero m h = elim h [ ]
+    times (suc n) m h = omega arith
+
+-- the count of an object of a block
+pub block_object : (shape large : List Piece) (first sum some : ℕ) → some ≡ vertices_of large → first ≡ capped (0 + vertices_of shape) → sum ≡ capped (first + some) → sum ≡ capped (vertices_of (shape ++ large))
+block_object shape large first sum some s f a =
+    let all : 0 + vertices_of shape + some ≡ vertices_of (shape ++ large) = omega (arith, s, vertices_of-append shape large) in
+    a ∙ ap (λ n. capped (n + some)) f ∙ capped_plus (0 + vertices_of shape) some
+    ∙ ap capped all
+
+-- the count with one object of a block more
+pub block_more : (objects : List Painted) (o : Painted) (old added sum : ℕ) → old ≡ capped (vertices_in objects) → added ≡ capped (vertices_of o.shape) → sum ≡ capped (old + added) → sum ≡ capped (vertices_in (objects ++ o ∷ []))
+block_more objects o old added sum e a s =
+    let turned : vertices_in objects + capped (vertices_of o.shape) ≡ capped (vertices_of o.shape) + vertices_in objects = omega arith in
+    let all : vertices_of o.shape + vertices_in objects ≡ vertices_in (objects ++ o ∷ []) = omega (arith, one_more objects o) in
+    s ∙ ap (λ n. capped (n + added)) e ∙ capped_plus (vertices_in objects) added ∙ ap (λ n. capped (vertices_in objects + n)) a
+    ∙ ap capped turned ∙ capped_plus (vertices_of o.shape) (vertices_in objects) ∙ ap capped all
+
+-- the shape of an object of a block that has few vertices
+pub small_shape : (shape : List Piece) (large : List (List Point)) → (large ≡ []) ⊎ (4194304 < vertices_of (flat_map area_of large)) → vertices_of (shape ++ flat_map area_of large) ≤ 4194304 → shape ≡ shape ++ flat_map area_of large
+small_shape shape large (inl e) h = rw e (sym (append-nil shape))
+small_shape shape large (inr m) h = absurd (omega (arith, m, h, vertices_of-append shape (flat_map area_of large)))

@@ -1,8 +1,10 @@
 -- Shifts within the range.
-use Rattle.std.proofs.Common.{◌≡◌, refl, ℕ, ◌^◌, ℤ, pos, ◌+ℤ◌, List, [], ◌∷◌, map, Bool, true, false, Option, Some, None, ap, ◌∙◌, arith}
+use Rattle.std.proofs.Common.{◌≡◌, refl, ℕ, ◌^◌, ◌++◌, ◌||◌, sym, ℤ, pos, ◌+ℤ◌, List, [], ◌∷◌, map, Bool, true, false, Option, Some, None, ap, ◌∙◌, arith}
 use Rattle.std.specs.Prelude.{if◌then◌else◌, ◌&&◌, is_none}
 use Rattle.std.specs.Prelude.{nat_lt}
 use Rattle.std.specs.List.{list_any}
+use Rattle.std.proofs.lemmas.List.{map-append}
+use Rattle.std.proofs.lemmas.List.Folds.{list_any-append}
 use Rattle.std.proofs.lemmas.Int.{ints}
 use Rattle.number_laws.proofs.Tests.{by_bool}
 use Rattle.board_base.specs.Places.{IsCoordinate, IsPlace}
@@ -73,9 +75,19 @@ none_unless : {Y : Type 0} (b : Bool) (y : Y) → is_none (unless b y) ≡ b
 none_unless true y = refl
 none_unless false y = refl
 
+pub point_tells : (s : Shift) (p : Point) → is_none (shift_of s p) ≡ is_far (shifted_point (pos s.dx) (pos s.dy) p)
+point_tells s p = ap is_none (point_unless s p) ∙ none_unless _ _
+
 -- whether a shift leads out of the range
 pub leaves_tells : (s : Shift) (pieces : List Piece) → is_none (moved_pieces (shift_of s) pieces) ≡ list_any piece_leaves (map (shifted_piece (pos s.dx) (pos s.dy)) pieces)
 leaves_tells s pieces = ap is_none (pieces_unless s pieces) ∙ none_unless _ _
+
+-- whether a shape or what stands behind it leaves the range
+pub behind_leaves : (shape large : List Piece) (dx dy : ℕ) (first behind all : Bool) → first ≡ list_any piece_leaves (map (shifted_piece (pos dx) (pos dy)) shape)
+    → behind ≡ list_any piece_leaves (map (shifted_piece (pos dx) (pos dy)) large) → all ≡ (first || behind) → all ≡ list_any piece_leaves (map (shifted_piece (pos dx) (pos dy)) (shape ++ large))
+behind_leaves shape large dx dy first behind all f b a =
+    a ∙ ap (λ x. x || behind) f ∙ ap (λ x. list_any piece_leaves (map (shifted_piece (pos dx) (pos dy)) shape) || x) b
+    ∙ sym (ap (list_any piece_leaves) (map-append (shifted_piece (pos dx) (pos dy)) shape large) ∙ list_any-append piece_leaves (map (shifted_piece (pos dx) (pos dy)) shape) (map (shifted_piece (pos dx) (pos dy)) large))
 
 -- a shift that doesn't
 pub shifted_some : (s : Shift) (pieces : List Piece) → list_any piece_leaves (map (shifted_piece (pos s.dx) (pos s.dy)) pieces) ≡ false → moved_pieces (shift_of s) pieces ≡ Some (map (shifted_piece (pos s.dx) (pos s.dy)) pieces)

@@ -45,7 +45,7 @@ held_of s = record {
     repeat = s.repeat;
   };
   outline = record { ended = s.contours.items; points = s.contour };
-  block = s.block;
+  block = s.block.items;
   painted = s.painted;
 }
 

@@ -1,13 +1,16 @@
 // Contours of regions, and the areas that they bound.
-ghost use Rattle.std.specs.Prelude.{◌≡◌, ◌∷◌, [], ◌++◌, ◌≤◌, length, take, drop, OnOk, OnErr, IfOk, IfErr, Some, None};
-ghost use Rattle.std.specs.List.{All, flat_map};
+ghost use Rattle.std.specs.Prelude.{◌≡◌, ◌∷◌, [], ◌++◌, ◌≤◌, length, take, drop, OnOk, OnErr, IfOk, IfErr, Some, None, map, pos};
+ghost use Rattle.std.specs.List.{All, flat_map, list_any};
 ghost use Rattle.board_base.specs.Places.{IsPlace};
 ghost use Rattle.shape_parts.specs.Vertices.{vertices_of};
 ghost use Rattle.gerber_image.specs.Regions.{same_place as same_place_of, last_behind as last_behind_of, without_return as without_return_of, area_through, area_of};
+ghost use Rattle.gerber_image.specs.Image.{shifted_piece};
+ghost use Rattle.gerber_image.specs.Checks.{piece_leaves};
 
+use crate::repeat::points_leave;
 use crate::state::Stop;
 use board_base::Point;
-use poly_area::Poly;
+use poly_area::{Poly, PolyError};
 use shape_parts::{Part, Shape};
 use std::alloc::{AllocError, Global};
 use std::marker::Model;
@@ -66,17 +69,20 @@ fn kept_points(contour: &[Point]) -> usize
     }
 }
 
-// An area through three or more points. More than 4,194,304 are answered by want of memory.
+// An area through three or more points.
 fn area(alloc: Global, points: &[Point]) -> Result<Part, Stop>
     requires places { All IsPlace points.now }
     requires some { 3 ≤ length points.now }
+    requires few { length points.now ≤ 4194304 }
     ensures value { IfOk result (λ part. part ≡ Part.Area (points.now ∷ [])) }
     ensures memory { IfErr result (λ stop. stop ≡ Stop.Memory) }
 {
     let mut poly = Poly::empty(alloc);
     match poly.add_loop(points) {
         Ok(()) => Ok(Part::Area { poly }),
-        Err(_) => Err(Stop::Memory),
+        Err(PolyError::Memory) => Err(Stop::Memory),
+        Err(PolyError::TooFewPoints { .. }) => unreachable!(),
+        Err(PolyError::TooManyPoints { .. }) => unreachable!(),
     }
 }
 
@@ -119,10 +125,22 @@ impl Contour {
         if 3 <= count { count } else { 0 }
     }
 
-    /// Adds the contour's area to a shape, where it bounds one. It fails only without memory, as which it also
-    /// answers more than 4,194,304 corners.
+    /// Whether a point of the contour's area leaves the range when it is shifted.
+    #[tactic(auto, unfolding(crate::specs::Regions::area_of))]
+    pub fn leaves(&self, dx: u128, dy: u128) -> bool
+        ensures { result ≡ list_any piece_leaves (map (shifted_piece (pos dx) (pos dy)) (area_of self.now)) }
+    {
+        let count = kept_points(&self.points);
+        if count < 3 {
+            return false;
+        }
+        points_leave(&self.points[..count], dx, dy)
+    }
+
+    /// Adds the contour's area to a shape, where it bounds one. It fails only without memory.
     #[tactic(auto, unfolding(crate::specs::Regions::area_of))]
     pub fn add_to(&self, alloc: Global, shape: &mut Shape) -> Result<(), Stop>
+        requires { vertices_of (area_of self.now) ≤ 4194304 }
         ensures added { OnOk result (shape.new ≡ shape.old ++ area_of self.now) }
         ensures memory { IfErr result (λ stop. stop ≡ Stop.Memory) }
     {
@@ -147,9 +165,9 @@ pub fn corners_of(contours: &[Contour]) -> u128
     corners
 }
 
-/// The areas of these contours. It fails only without memory, as which it also answers more than 4,194,304
-/// corners of one contour.
+/// The areas of these contours. It fails only without memory.
 pub fn region(alloc: Global, contours: &[Contour]) -> Result<Shape, Stop>
+    requires { vertices_of (flat_map area_of contours.now) ≤ 4194304 }
     ensures value { IfOk result (λ s. s ≡ flat_map area_of contours.now) }
     ensures memory { IfErr result (λ stop. stop ≡ Stop.Memory) }
 {

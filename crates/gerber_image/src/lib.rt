@@ -4,6 +4,7 @@
 //! setters have set (specs/State) may not change.
 #![tactic(auto)]
 
+mod block;
 mod contour;
 mod definitions;
 mod draws;

@@ -11,8 +11,8 @@ use std::marker::Model;
 // The most objects of an image.
 const MOST_OBJECTS: u128 = 1_048_576;
 
-// The most vertices of an image.
-const MOST_VERTICES: u128 = 4_194_304;
+/// The most vertices of an image.
+pub const MOST_VERTICES: u128 = 4_194_304;
 
 /// Painted objects in their order.
 #[derive(Drop)]
@@ -35,8 +35,8 @@ impl Model for Objects {
     ghost invariant = { λ o. o.vertices ≡ capped (vertices_in o.painted.items) };
 }
 
-// The sum, or one more than an image may have vertices.
-fn capped_sum(a: u128, b: u128) -> u128
+/// The sum, or one more than an image may have vertices.
+pub fn capped_sum(a: u128, b: u128) -> u128
     requires { a ≤ 4194305 }
     ensures { result ≡ capped (a + b) }
 {
@@ -58,20 +58,6 @@ impl Objects {
             painted: Vec::new(alloc),
             vertices: 0,
         }
-    }
-
-    /// All of them.
-    pub fn all(&self) -> &[Painted]
-        ensures { result.now ≡ self.now }
-    {
-        &self.painted
-    }
-
-    /// How many vertices they have, or one more than an image may have.
-    pub fn vertices(&self) -> u128
-        ensures { result ≡ capped (vertices_in self.now) }
-    {
-        self.vertices
     }
 
     /// What there would be too much of with so many more objects that have so many vertices.
@@ -97,14 +83,6 @@ impl Objects {
         self.painted.push(object)?;
         self.vertices = vertices;
         Ok(())
-    }
-
-    /// Drops all of them.
-    pub fn clear(&mut self)
-        ensures { self.new ≡ [] }
-    {
-        self.painted.clear();
-        self.vertices = 0;
     }
 
     /// The list of them.

@@ -12,6 +12,7 @@ ghost use Rattle.gerber_image.specs.Image.{figure_of, stroked, flashed, acted};
 ghost use Rattle.gerber_image.specs.Checks.{is_long as is_long_of, has_long as has_long_of, is_draw, is_flash, wants_aperture as wants_aperture_of, is_short_arc, lacks_stroke as lacks_stroke_of, opens_arc, leaves_range, first_fault_of, excess_of};
 ghost use Rattle.gerber_image.specs.State.{held_of, listed, IsReady, Stops, Steps, flash_fault};
 
+use crate::block::BlockObject;
 use crate::draws::{Reached, is_curved};
 use crate::numbers::{both, x_format, y_format};
 use crate::refusal::GerberKind;
@@ -144,11 +145,11 @@ impl State {
         ensures value { MatchResult result
             (λ act. (Some act ≡ option_or o.act self.now.act)
             × (has_long_of self.now.format o ≡ false)
-            × (first_fault_of (held_of self.now).now self.now.block (Operate o)
+            × (first_fault_of (held_of self.now).now self.now.block.items (Operate o)
             ≡ (if opens_arc (held_of self.now).now (Operate o) then Some GerberKind.OpenArc
-            else if leaves_range (held_of self.now).now self.now.block (Operate o) then Some GerberKind.OutOfRange
+            else if leaves_range (held_of self.now).now self.now.block.items (Operate o) then Some GerberKind.OutOfRange
             else None)))
-            (λ kind. first_fault_of (held_of self.now).now self.now.block (Operate o) ≡ Some kind) }
+            (λ kind. first_fault_of (held_of self.now).now self.now.block.items (Operate o) ≡ Some kind) }
         ensures region { IfOk result (λ act. self.now.region ≡ true → is_flash (Some act) ≡ false) }
     {
         let Some(act) = o.act.or(self.act) else {
@@ -249,12 +250,12 @@ impl State {
         requires ready { IsReady (held_of self.now) }
         requires written { AreWritten o }
         ensures value { MatchResult result
-            (λ e. (first_fault_of (held_of self.now).now self.now.block (Operate o) ≡ None)
+            (λ e. (first_fault_of (held_of self.now).now self.now.block.items (Operate o) ≡ None)
             × (e.place ≡ place_after (held_of self.now).now o)
             × (e.mode ≡ mode_after (held_of self.now).now o)
             × (Some e.act ≡ option_or o.act self.now.act)
             × (listed e.object ≡ acted (option_or o.act self.now.act) (held_of self.now).now o (figure_of self.now.selected (held_of self.now).now.aperture)))
-            (Stops (first_fault_of (held_of self.now).now self.now.block (Operate o))) }
+            (Stops (first_fault_of (held_of self.now).now self.now.block.items (Operate o))) }
         ensures place { IfOk result (λ e. IsPlace e.place) }
     {
         let act = match self.checked(o) {
@@ -272,11 +273,11 @@ impl State {
     }
 
     /// Adds an object to the open block, or to the image.
-    pub fn add(&mut self, object: Option<Painted>) -> Result<(), Stop>
+    pub fn add(&mut self, alloc: Global, object: Option<Painted>) -> Result<(), Stop>
         requires { IsReady (held_of self.old) }
         ensures others { self.new ≡ record self.old { block = self.new.block; painted = self.new.painted } }
         ensures ok { OnOk result
-            ((self.new.block ≡ if is_none self.old.repeat then self.old.block else self.old.block ++ listed object)
+            ((self.new.block.items ≡ if is_none self.old.repeat then self.old.block.items else self.old.block.items ++ listed object)
             × (self.new.painted ≡ if is_none self.old.repeat then self.old.painted ++ listed object else self.old.painted)
             × (excess_of self.new.painted ≡ None)) }
         ensures full { IfErr result (Stops (excess_of (if is_none self.old.repeat then self.old.painted ++ listed object else self.old.painted))) }
@@ -290,7 +291,7 @@ impl State {
                 Ok(())
             }
             (Some(object), Some(_)) => {
-                self.block.push(object)?;
+                self.block.push(BlockObject::painted(alloc, object))?;
                 Ok(())
             }
             (None, _) => Ok(()),
@@ -306,7 +307,7 @@ impl State {
         ensures place { OnOk result (IsPlace self.new.here) }
     {
         let effect = self.effect(alloc, o)?;
-        self.add(effect.object)?;
+        self.add(alloc, effect.object)?;
         self.here = effect.place;
         self.mode = effect.mode;
         self.act = Some(effect.act);

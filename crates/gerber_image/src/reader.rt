@@ -70,8 +70,7 @@ fn read_commands(alloc: Global, bytes: &[u8]) -> Result<Vec<Painted>, GerberErro
 /// # Errors
 ///
 /// The first check that fails at the first command where one does, with the command's offset; `NoEnd` at
-/// the number of bytes. `Memory`, where the memory doesn't suffice, may come in place of any; it is also
-/// answered where an area in an open repeat has more than 4,194,304 vertices.
+/// the number of bytes. `Memory`, where the memory doesn't suffice, may come in place of any.
 pub fn read_image(alloc: Global, bytes: &[u8]) -> Result<Vec<Painted>, GerberError>
     ensures image { IfOk result (λ v. StandsFor bytes.now (Ok v.items)) }
     ensures refusal { IfErr result (Refuses bytes.now) }

@@ -11,6 +11,7 @@ ghost use Rattle.gerber_image.specs.Image.{traced};
 ghost use Rattle.gerber_image.specs.Checks.{excess_of, is_draw};
 ghost use Rattle.gerber_image.specs.State.{held_of, IsReady, Stops, Steps};
 
+use crate::block::BlockObject;
 use crate::contour::{Contour, corners_of, region};
 use crate::draws::Reached;
 use crate::refusal::GerberKind;
@@ -58,21 +59,43 @@ impl State {
         Ok(())
     }
 
-    // The object of the region whose contours have all ended.
+    // The object of the region whose contours have all ended, outside repeats.
     fn region_object(&self, alloc: Global) -> Result<Painted, Stop>
         ensures value { IfOk result (λ o. o ≡ record { shape = flat_map area_of self.now.contours.items; dark = self.now.dark }) }
-        ensures refused { IfErr result (Stops (if is_none self.now.repeat then excess_of (self.now.painted ++ record { shape = flat_map area_of self.now.contours.items; dark = self.now.dark } ∷ []) else None)) }
+        ensures within { IfOk result (λ o. excess_of (self.now.painted ++ o ∷ []) ≡ None) }
+        ensures refused { IfErr result (Stops (excess_of (self.now.painted ++ record { shape = flat_map area_of self.now.contours.items; dark = self.now.dark } ∷ []))) }
     {
-        if self.repeat.is_none() {
-            if let Some(kind) = self.painted.excess(1, corners_of(&self.contours)) {
-                return Err(Stop::Fault(kind));
-            }
+        if let Some(kind) = self.painted.excess(1, corners_of(&self.contours)) {
+            return Err(Stop::Fault(kind));
         }
         let shape = region(alloc, &self.contours)?;
         Ok(Painted {
             shape,
             dark: self.dark,
         })
+    }
+
+    // Adds the region whose contours have all ended to the open block, or to the image, and drops the contours.
+    fn add_region(&mut self, alloc: Global) -> Result<(), Stop>
+        requires { IsReady (held_of self.old) }
+        ensures others { self.new ≡ record self.old { contours = self.new.contours; block = self.new.block; painted = self.new.painted } }
+        ensures ok { OnOk result
+            ((self.new.contours.items ≡ [])
+            × (self.new.block.items ≡ if is_none self.old.repeat then self.old.block.items else self.old.block.items ++ record { shape = flat_map area_of self.old.contours.items; dark = self.old.dark } ∷ [])
+            × (self.new.painted ≡ if is_none self.old.repeat then self.old.painted ++ record { shape = flat_map area_of self.old.contours.items; dark = self.old.dark } ∷ [] else self.old.painted)
+            × (excess_of self.new.painted ≡ None)) }
+        ensures full { IfErr result (Stops (excess_of (if is_none self.old.repeat then self.old.painted ++ record { shape = flat_map area_of self.old.contours.items; dark = self.old.dark } ∷ [] else self.old.painted))) }
+    {
+        if self.repeat.is_none() {
+            let object = self.region_object(alloc)?;
+            self.painted.push(object)?;
+            self.contours.clear();
+            return Ok(());
+        }
+        let contours = mem::replace(&mut self.contours, Vec::new(alloc));
+        let object = BlockObject::region(alloc, contours, self.dark)?;
+        self.block.push(object)?;
+        Ok(())
     }
 
     /// G37
@@ -84,9 +107,7 @@ impl State {
             return Err(Stop::Fault(GerberKind::Syntax));
         }
         self.end_contour(alloc)?;
-        let object = self.region_object(alloc)?;
-        self.add(Some(object))?;
-        self.contours.clear();
+        self.add_region(alloc)?;
         self.region = false;
         Ok(())
     }

@@ -1,12 +1,13 @@
 // The copies of a repeat.
 ghost use Rattle.std.specs.Prelude.{◌≡◌, ◌++◌, ◌<◌, ◌≤◌, ◌+◌, ◌*◌, ◌^◌, ◌||◌, pos, false, length, map, nat_lt, OnOk, IfOk, ◌+ℤ◌};
-ghost use Rattle.std.specs.List.{list_any, flat_map, range_with_len};
+ghost use Rattle.std.specs.List.{All, list_any, flat_map, range_with_len};
 ghost use Rattle.board_base.specs.Places.{IsPlace};
-ghost use Rattle.gerber_image.specs.Image.{shifted_piece, shifted, copy, copies_of};
-ghost use Rattle.gerber_image.specs.Checks.{piece_leaves, is_outside, excess_of};
+ghost use Rattle.gerber_image.specs.Image.{shifted_point, shifted_piece, shifted, copy, copies_of, vertices_in};
+ghost use Rattle.gerber_image.specs.Checks.{is_far, piece_leaves, is_outside, excess_of};
 ghost use Rattle.gerber_image.specs.State.{IsRepeat};
 ghost use Rattle.gerber_image.specs.Copies.{AreInside, shift_of};
 
+use crate::block::{BlockObject, block_vertices};
 use crate::numbers::either;
 use crate::objects::Objects;
 use crate::refusal::GerberKind;
@@ -64,8 +65,31 @@ impl Motion for Shift {
     }
 }
 
-// Whether a shifted shape leaves the range.
-fn shape_leaves(shape: &Shape, dx: u128, dy: u128) -> bool
+// Whether a shifted point leaves the range.
+fn point_leaves(p: Point, dx: u128, dy: u128) -> bool
+    requires { IsPlace p }
+    ensures { result ≡ is_far (shifted_point (pos dx) (pos dy) p) }
+{
+    match (Shift { dx, dy }).moved(p) {
+        Some(_) => false,
+        None => true,
+    }
+}
+
+/// Whether a shifted point leaves the range.
+pub fn points_leave(points: &[Point], dx: u128, dy: u128) -> bool
+    requires { All IsPlace points.now }
+    ensures { result ≡ list_any is_far (map (shifted_point (pos dx) (pos dy)) points.now) }
+{
+    let mut found = false;
+    for p in points {
+        found = either(found, point_leaves(*p, dx, dy));
+    }
+    found
+}
+
+/// Whether a shifted shape leaves the range.
+pub fn shape_leaves(shape: &Shape, dx: u128, dy: u128) -> bool
     ensures { result ≡ list_any piece_leaves (map (shifted_piece (pos dx) (pos dy)) shape.now) }
 {
     shape.leaves(&Shift { dx, dy })
@@ -83,12 +107,12 @@ fn shifted_shape(alloc: Global, shape: &Shape, dx: u128, dy: u128) -> Result<Sha
 }
 
 // Whether an object of a copy leaves the range.
-fn any_leaves(block: &[Painted], dx: u128, dy: u128) -> bool
+fn any_leaves(block: &[BlockObject], dx: u128, dy: u128) -> bool
     ensures { result ≡ list_any is_outside (map (shifted (pos dx) (pos dy)) block.now) }
 {
     let mut found = false;
     for p in block {
-        found = either(found, shape_leaves(&p.shape, dx, dy));
+        found = either(found, p.leaves(dx, dy));
     }
     found
 }
@@ -97,18 +121,19 @@ fn any_leaves(block: &[Painted], dx: u128, dy: u128) -> bool
 fn paint_copy(
     alloc: Global,
     painted: &mut Objects,
-    block: &[Painted],
+    block: &[BlockObject],
     dx: u128,
     dy: u128,
 ) -> Result<(), AllocError>
+    requires few { vertices_in block.now ≤ 4194304 }
     requires inside { list_any is_outside (map (shifted (pos dx) (pos dy)) block.now) ≡ false }
     ensures { OnOk result (painted.new ≡ painted.old ++ map (shifted (pos dx) (pos dy)) block.now) }
 {
     for p in block {
-        let shape = shifted_shape(alloc, &p.shape, dx, dy)?;
+        let shape = shifted_shape(alloc, p.shape(), dx, dy)?;
         painted.push(Painted {
             shape,
-            dark: p.dark,
+            dark: p.is_dark(),
         })?;
     }
     Ok(())
@@ -119,11 +144,12 @@ fn paint_column(
     alloc: Global,
     painted: &mut Objects,
     r: Repeat,
-    block: &[Painted],
+    block: &[BlockObject],
     i: u32,
 ) -> Result<(), AllocError>
     requires repeat { IsRepeat r }
     requires below { i < r.columns }
+    requires few { vertices_in block.now ≤ 4194304 }
     requires inside { AreInside r block.now }
     ensures { OnOk result (painted.new ≡ painted.old ++ flat_map (copy r block.now i) (range_with_len 0 r.rows)) }
 {
@@ -138,9 +164,10 @@ pub fn paint_copies(
     alloc: Global,
     painted: &mut Objects,
     r: Repeat,
-    block: &[Painted],
+    block: &[BlockObject],
 ) -> Result<(), AllocError>
     requires repeat { IsRepeat r }
+    requires few { vertices_in block.now ≤ 4194304 }
     requires inside { AreInside r block.now }
     ensures { OnOk result (painted.new ≡ painted.old ++ copies_of r block.now) }
 {
@@ -151,7 +178,7 @@ pub fn paint_copies(
 }
 
 /// Whether a copy leaves the range: the first or the last.
-pub fn copies_leave(r: Repeat, block: &[Painted]) -> bool
+pub fn copies_leave(r: Repeat, block: &[BlockObject]) -> bool
     requires repeat { IsRepeat r }
     ensures { result ≡ list_any is_outside (copies_of r block.now) }
 {
@@ -164,7 +191,7 @@ pub fn copies_leave(r: Repeat, block: &[Painted]) -> bool
 
 // How many objects the copies are.
 #[tactic(auto, using(crate::proofs::Copies::length_copies))]
-fn count_copies(r: Repeat, block: &[Painted]) -> u128
+fn count_copies(r: Repeat, block: &[BlockObject]) -> u128
     requires { IsRepeat r }
     ensures value { result ≡ length (copies_of r block.now) }
     ensures bound { result ≤ 1000000 * length block.now }
@@ -173,11 +200,11 @@ fn count_copies(r: Repeat, block: &[Painted]) -> u128
 }
 
 /// What there would be too much of with the copies of a block.
-pub fn copies_excess(painted: &Objects, r: Repeat, block: &Objects) -> Option<GerberKind>
+pub fn copies_excess(painted: &Objects, r: Repeat, block: &[BlockObject]) -> Option<GerberKind>
     requires { IsRepeat r }
     ensures { result ≡ excess_of (painted.now ++ copies_of r block.now) }
 {
-    let objects = count_copies(r, block.all());
-    let vertices = r.columns as u128 * (r.rows as u128 * block.vertices());
+    let objects = count_copies(r, block);
+    let vertices = r.columns as u128 * (r.rows as u128 * block_vertices(block));
     painted.excess(objects, vertices)
 }

@@ -8,6 +8,7 @@ ghost use Rattle.gerber_image.specs.Checks.{is_outside, excess_of};
 ghost use Rattle.gerber_words.specs.Fits.{IsCommand};
 ghost use Rattle.gerber_image.specs.State.{held_of, nothing, IsReady, IsRepeat, block_fault, Stops, Steps};
 
+use crate::block::BlockObject;
 use crate::contour::Contour;
 use crate::numbers::step_length;
 use crate::objects::Objects;
@@ -38,7 +39,7 @@ pub struct State {
     pub repeat: Option<Repeat>,
     pub contours: Vec<Contour>,
     pub contour: Contour,
-    pub block: Objects,
+    pub block: Vec<BlockObject>,
     pub painted: Objects,
 }
 
@@ -117,7 +118,7 @@ impl State {
             repeat: None,
             contours: Vec::new(alloc),
             contour: Contour::empty(alloc),
-            block: Objects::empty(alloc),
+            block: Vec::new(alloc),
             painted: Objects::empty(alloc),
         }
     }
@@ -127,21 +128,21 @@ impl State {
         requires { IsReady (held_of self.old) }
         ensures others { self.new ≡ record self.old { painted = self.new.painted } }
         ensures ok { OnOk result
-            ((self.new.painted ≡ self.old.painted ++ copies self.old.repeat self.old.block)
-            × (list_any is_outside (copies self.old.repeat self.old.block) ≡ false)
+            ((self.new.painted ≡ self.old.painted ++ copies self.old.repeat self.old.block.items)
+            × (list_any is_outside (copies self.old.repeat self.old.block.items) ≡ false)
             × (excess_of self.new.painted ≡ None)) }
         ensures refused { IfErr result (Stops (block_fault (held_of self.old))) }
     {
         let Some(repeat) = self.repeat else {
             return Ok(());
         };
-        if copies_leave(repeat, self.block.all()) {
+        if copies_leave(repeat, &self.block) {
             return Err(Stop::Fault(GerberKind::OutOfRange));
         }
         if let Some(kind) = copies_excess(&self.painted, repeat, &self.block) {
             return Err(Stop::Fault(kind));
         }
-        paint_copies(alloc, &mut self.painted, repeat, self.block.all())?;
+        paint_copies(alloc, &mut self.painted, repeat, &self.block)?;
         Ok(())
     }
 
