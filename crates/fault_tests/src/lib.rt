@@ -5,6 +5,8 @@
 #[cfg(test)]
 mod cut_off;
 #[cfg(test)]
+mod cut_off_drills;
+#[cfg(test)]
 mod devices;
 #[cfg(test)]
 mod objections;
