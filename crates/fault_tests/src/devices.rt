@@ -1,7 +1,9 @@
 // Reads and puts that fail in turn, of the commands that write no files.
-use board_base::MemoryShelf;
+use board_base::{MemoryShelf, Role};
+use mill_top::Status;
+use std::alloc::Global;
 use std::test::Fail;
-use trial_runs::{carried_out, with_a_put_that_fails};
+use trial_runs::{carried_out, two_discs, with_a_put_that_fails};
 
 // A read that fails, and the line.
 const READS: [(u64, &str); 3] = [
@@ -44,6 +46,66 @@ fn puts_of_a_sample_fail_in_turn(rt: HostRuntime) -> Result<(), Fail> {
         let mut shelf = MemoryShelf::new(alloc);
         let (_, lines) = with_a_put_that_fails(alloc, &["sample", "1"], &mut shelf, put)?;
         assert_eq!(rt; lines.as_slice(), text.as_bytes());
+    }
+    Ok(())
+}
+
+// A side, a job with it, and its role.
+const SIDES: [(&str, &str, Role); 2] = [
+    (
+        "front",
+        "front=a.gbr\npitch=0.2\nmill-diameters=0.4\n",
+        Role::Front,
+    ),
+    (
+        "back",
+        "back=a.gbr\npitch=0.2\nmill-diameters=0.4\n",
+        Role::Back,
+    ),
+];
+
+// A shelf with this job, the layer of two discs, a program without moves and no answers.
+fn checked_shelf(alloc: Global, job: &str) -> Result<MemoryShelf, Fail> {
+    let mut shelf = two_discs(alloc)?;
+    shelf.add("job.txt", job.as_bytes())?;
+    shelf.add("p.ngc", b"M2\n")?;
+    shelf.add("p.txt", b"")?;
+    Ok(shelf)
+}
+
+#[test]
+fn reads_of_a_check_fail_in_turn(rt: HostRuntime) -> Result<(), Fail> {
+    let alloc = rt.alloc();
+    for (side, job, layer) in SIDES {
+        for (read, role, input) in [
+            (1, Role::Job, "job"),
+            (2, layer, side),
+            (3, Role::Ngc, "ngc"),
+            (4, Role::Probes, "probes"),
+        ] {
+            let mut shelf = checked_shelf(alloc, job)?;
+            shelf.fail_read(read);
+            let words = ["check", "job.txt", side, "p.ngc", "p.txt"];
+            let (status, lines) = carried_out(alloc, &words, &mut shelf)?;
+            assert_eq!(rt; status, Status::ReadFault { role });
+            assert_eq!(rt; status.number(), 8);
+            let line = format!(in alloc; "pcbmill: read {input}\n")?;
+            assert_eq!(rt; lines.as_slice(), line.as_bytes());
+        }
+    }
+    Ok(())
+}
+
+#[test]
+fn a_check_reads_four_files(rt: HostRuntime) -> Result<(), Fail> {
+    let alloc = rt.alloc();
+    for (side, job, _) in SIDES {
+        let mut shelf = checked_shelf(alloc, job)?;
+        shelf.fail_read(5);
+        let words = ["check", "job.txt", side, "p.ngc", "p.txt"];
+        let (status, lines) = carried_out(alloc, &words, &mut shelf)?;
+        assert_eq!(rt; status, Status::Done);
+        assert_eq!(rt; lines.as_slice(), b"joined 1 2\npcbmill: ok\n".as_slice());
     }
     Ok(())
 }
