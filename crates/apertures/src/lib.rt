@@ -34,6 +34,3 @@ pub fn text_law()
 pub fn origin_law()
     ensures { OriginLaw }
 {}
-
-#[cfg(test)]
-mod tests;

@@ -22,6 +22,3 @@ pub use places::{Bounds, Cell, CellBox, Move, MoveKind, Point, Pos, Role, Side, 
 pub use shelf::{Shelf, ShelfError};
 pub use sink::{Sink, SinkError};
 pub use steady::SteadyShelf;
-
-#[cfg(test)]
-mod tests;

@@ -39,6 +39,3 @@ pub fn size_law()
 pub fn turn_law()
     ensures { TurnLaw }
 {}
-
-#[cfg(test)]
-mod tests;

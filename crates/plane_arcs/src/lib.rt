@@ -18,6 +18,3 @@ pub use vectors::length_of;
 pub fn chain_law()
     ensures { ChainLaw }
 {}
-
-#[cfg(test)]
-mod tests;

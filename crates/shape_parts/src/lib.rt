@@ -12,8 +12,6 @@ mod mirror;
 mod moves;
 mod parts;
 mod shape;
-#[cfg(test)]
-mod tests;
 
 pub use boxes::hull;
 pub use mirror::mirror_x;

@@ -1,4 +1,4 @@
-use crate::{
+use fixed_num::{
     NumError, SignMark, cosine, cut_decimal, isqrt, read_decimal, round_div, sine, split_decimal,
     write_fixed6,
 };

@@ -1,7 +1,9 @@
 // What texts stand for and where shapes come to, worked out by hand.
 ghost use Rattle.board_base.specs.Places.{IsNearPlace};
 
-use super::*;
+use apertures::{
+    Aperture, ApertureError, Macros, Mirror, NamedMacro, Unit, define, shape_at, stroke,
+};
 use board_base::{Bounds, Items, Point};
 use macro_eval::{MacroFault, read_macro};
 use shape_parts::{Part, Shape};
@@ -29,6 +31,11 @@ fn seen(alloc: Global, shape: &Shape) -> Result<Vec<Seen>, AllocError> {
     Ok(parts)
 }
 
+// The shape of an aperture at the origin, neither mirrored nor turned: its own.
+fn own_shape(alloc: Global, a: &Aperture) -> Result<Shape, ApertureError> {
+    shape_at(alloc, a, Point { x: 0, y: 0 }, Mirror::Keep, 0)
+}
+
 // The edges of an area of one loop through four points.
 const fn four(a: (i64, i64), b: (i64, i64), c: (i64, i64), d: (i64, i64)) -> [Seen; 4] {
     [
@@ -52,7 +59,7 @@ fn defines(
     width: Option<i64>,
 ) -> Result<(), Fail> {
     let a = define(alloc, bytes, unit, &Macros::empty(alloc))?;
-    assert_eq!(rt; seen(alloc, &a.shape)?.as_slice(), parts);
+    assert_eq!(rt; seen(alloc, &own_shape(alloc, &a)?)?.as_slice(), parts);
     assert_eq!(rt; stroke(&a), width);
     Ok(())
 }
@@ -312,7 +319,7 @@ fn painted(alloc: Global, body: &[u8], bytes: &[u8]) -> Result<Vec<Seen>, Fail> 
         body: read_macro(alloc, body)?,
     })?;
     let a = define(alloc, bytes, Unit::Mm, &macros)?;
-    Ok(seen(alloc, &a.shape)?)
+    Ok(seen(alloc, &own_shape(alloc, &a)?)?)
 }
 
 #[test]

@@ -4,8 +4,8 @@ ghost use Rattle.board_base.specs.Places.{IsNearPlace, IsPlace};
 ghost use Rattle.board_base.specs.Lattice.{centre_of};
 ghost use Rattle.shape_parts.specs.Parts.{IsPart};
 
-use super::*;
 use board_base::{Bounds, Cell, Point};
+use shape_parts::{Motion, Painted, Part, Poly, Shape, hull, is_dark, mirror_x};
 use std::alloc::{AllocError, Global};
 use std::test::Fail;
 

@@ -1,8 +1,8 @@
 ghost use Rattle.board_base.specs.Places.{IsPlace};
 ghost use Rattle.plane_arcs.specs.Vectors.{IsArcPlace};
 
-use crate::{Arc, ArcError, arc_chain, rotate};
 use board_base::Point;
+use plane_arcs::{Arc, ArcError, arc_chain, rotate};
 use std::alloc::Global;
 use std::process::Abort;
 use std::test::Fail;

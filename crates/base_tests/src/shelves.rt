@@ -1,5 +1,8 @@
 // Each public call once with ample memory, and each fault once.
-use super::*;
+use board_base::{
+    Cell, Items, MemoryShelf, MemorySink, Point, Shelf, ShelfError, Sink, SinkError, SteadyShelf,
+    SteadySink, centre, half_diagonal,
+};
 use std::test::Fail;
 
 const LIMIT: usize = 4;
