@@ -23,6 +23,10 @@ middle p i = i *ℤ p +ℤ half_of p
 abbrev pub centre_of : ℤ → Cell → Point
 centre_of p c = record { x = middle p c.i; y = middle p c.j }
 
+-- the cell so many columns east
+abbrev pub east_by : Cell → ℕ → Cell
+east_by c k = record { i = c.i +ℤ pos k; j = c.j }
+
 -- a limit for columns and rows: at most 1 m for a coordinate, with 2 m for half of a width beside it
 abbrev pub IsLimit : ℤ → Type 0
 IsLimit v = unsigned_abs v ≤ 3000000000

@@ -1,5 +1,6 @@
 -- Which numbers may be places of the board, in nanometres.
-use Rattle.std.specs.Prelude.{ℤ, pos, neg_ℤ, ◌≤ℤ◌, unsigned_abs, nat_le, Bool, Option, Some, None}
+use Rattle.std.specs.Prelude.{ℤ, pos, neg_ℤ, ◌≤ℤ◌, unsigned_abs, nat_le, nat_lt, Bool, ◌&&◌, Option, Some, None}
+use Rattle.std.specs.Ordering.{int_eq}
 use Rattle.board_base.specs.declared.places.Point.{Point}
 use Rattle.board_base.specs.declared.places.Bounds.{Bounds}
 
@@ -12,7 +13,19 @@ pub record IsCoordinate (v : ℤ) : Type 0 where
 abbrev pub is_coordinate : ℤ → Bool
 is_coordinate v = nat_le (unsigned_abs v) 500000000
 
--- the same of both coordinates of a point
+-- more than 500 mm in size
+abbrev pub is_beyond : ℤ → Bool
+is_beyond v = nat_lt 500000000 (unsigned_abs v)
+
+-- the point where x and y are 0
+abbrev pub origin : Point
+origin = record { x = pos 0; y = pos 0 }
+
+-- one and the same point
+abbrev pub same_point : Point → Point → Bool
+same_point a b = int_eq a.x b.x && int_eq a.y b.y
+
+-- each coordinate of a point is at most 500 mm in size
 pub record IsPlace (p : Point) : Type 0 where
   pub x : IsCoordinate p.x
   pub y : IsCoordinate p.y

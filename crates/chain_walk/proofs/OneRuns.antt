@@ -8,8 +8,9 @@ use borrow.Author.Differences.{ints}
 use Rattle.board_base.specs.declared.places.Cell.{Cell}
 use Rattle.cell_sets.specs.Chains.{IsBefore}
 use Rattle.cell_sets.proofs.CellLaws.{same_cell}
+use Rattle.board_base.specs.Lattice.{east_by}
 use Rattle.chain_walk.specs.Walk.{entry}
-use Rattle.chain_walk.specs.RowRuns.{east_by, west_of, run_of, IsRowRun, AreRowRuns, OneRowRuns}
+use Rattle.chain_walk.specs.RowRuns.{west_of, run_of, IsRowRun, AreRowRuns, OneRowRuns}
 use Rattle.chain_walk.proofs.Chaining.{not_both}
 use Rattle.chain_walk.proofs.RowRunLaws.{no_column, in_run, of_run}
 

@@ -4,10 +4,10 @@ use Rattle.std.specs.List.{Contains}
 use Rattle.std.proofs.lemmas.List.FromFn.{length-map-range_with_len, get_or-map-range_with_len, map-range_with_len_more}
 use borrow.Author.Differences.{ints}
 use Rattle.board_base.specs.declared.places.Cell.{Cell}
-use Rattle.board_base.specs.Lattice.{AreNeighbours}
+use Rattle.board_base.specs.Lattice.{AreNeighbours, east_by}
 use Rattle.cell_sets.proofs.CellLaws.{same_cell}
 use Rattle.chain_walk.specs.Walk.{origin, IsConnected}
-use Rattle.chain_walk.specs.RowRuns.{east_by, run_of, RowRunLaw}
+use Rattle.chain_walk.specs.RowRuns.{run_of, RowRunLaw}
 
 pub no_column : (c : Cell) → east_by c 0 ≡ c
 no_column c = same_cell (c.i +ℤ pos 0) c.j c.i c.j (omega (arith, ints)) refl

@@ -15,8 +15,9 @@ use Rattle.cell_grid.specs.Cells.{in_frame, in_plane}
 use Rattle.cell_grid.proofs.CellsLaws.{in_frame_is}
 use Rattle.cell_sets.specs.Chains.{IsBefore}
 use Rattle.cell_sets.proofs.CellLaws.{same_cell}
+use Rattle.board_base.specs.Lattice.{east_by}
 use Rattle.chain_walk.specs.Walk.{origin, entry}
-use Rattle.chain_walk.specs.RowRuns.{east_by, west_of, run_of, IsRowRun, AreRowRuns}
+use Rattle.chain_walk.specs.RowRuns.{west_of, run_of, IsRowRun, AreRowRuns}
 use Rattle.chain_walk.specs.RowsDone.{cell_by, AreTakenFrom, IsRunFrom, AreRunsBefore}
 use Rattle.chain_walk.proofs.Entries.{each_push, steps_push}
 use Rattle.chain_walk.proofs.RowRunLaws.{run_at, run_more, run_one, no_column, by_column, in_run}

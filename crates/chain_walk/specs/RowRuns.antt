@@ -3,11 +3,8 @@ use Rattle.std.specs.Prelude.{◌≡◌, ℕ, pos, ◌+◌, ◌<◌, ◌+ℤ◌,
 use Rattle.std.specs.List.{Contains, range_with_len}
 use Rattle.board_base.specs.declared.places.Cell.{Cell}
 use Rattle.cell_sets.specs.Chains.{IsBefore}
+use Rattle.board_base.specs.Lattice.{east_by}
 use Rattle.chain_walk.specs.Walk.{entry, IsConnected}
-
--- the cell so many columns east
-abbrev pub east_by : Cell → ℕ → Cell
-east_by c k = record { i = c.i +ℤ pos k; j = c.j }
 
 -- the next cell to the west
 abbrev pub west_of : Cell → Cell

@@ -4,8 +4,9 @@ use Rattle.std.specs.List.{Contains}
 use Rattle.board_base.specs.declared.places.Cell.{Cell}
 use Rattle.cell_grid.specs.declared.frames.Frame.{Frame}
 use Rattle.cell_sets.specs.Chains.{IsBefore}
+use Rattle.board_base.specs.Lattice.{east_by}
 use Rattle.chain_walk.specs.Walk.{entry}
-use Rattle.chain_walk.specs.RowRuns.{east_by, west_of, run_of, IsRowRun}
+use Rattle.chain_walk.specs.RowRuns.{west_of, run_of, IsRowRun}
 
 -- the cell so many columns and rows from the south-west corner of a frame
 abbrev pub cell_by : Frame → ℕ → ℕ → Cell

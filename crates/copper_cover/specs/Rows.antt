@@ -3,13 +3,13 @@ use Rattle.std.specs.Prelude.{◌≡◌, ℕ, ◌<◌, ◌≤◌, ℤ, pos, ◌+
 use Rattle.board_base.specs.declared.places.Cell.{Cell}
 use Rattle.board_base.specs.declared.places.Point.{Point}
 use Rattle.board_base.specs.Places.{IsNearPlace}
-use Rattle.board_base.specs.Lattice.{IsPitch, centre_of, middle}
+use Rattle.board_base.specs.Lattice.{IsPitch, centre_of, middle, east_by}
 use Rattle.cell_grid.specs.Rows.{Rows}
 use Rattle.copper_cover.specs.declared.columns.Row.{Row}
 
 -- the cell k columns east of a cell
 unfoldable pub east_of : Cell → ℕ → Cell
-east_of c k = record { i = c.i +ℤ pos k; j = c.j }
+east_of c k = east_by c k
 
 -- the centre of cell k of a row, counted from 0
 abbrev pub centre_in : Row → ℕ → Point

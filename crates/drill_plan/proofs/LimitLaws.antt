@@ -16,12 +16,11 @@ use Rattle.std.proofs.lemmas.List.Sums.{sum_by-cons}
 use Rattle.std.proofs.lemmas.Map.Keys.{IsDistinct-from_sorted}
 use Rattle.number_laws.proofs.Tests.{by_bool}
 use Rattle.board_base.specs.declared.places.Point.{Point}
-use Rattle.board_base.specs.Places.{IsPlace}
+use Rattle.board_base.specs.Places.{IsPlace, origin}
 use Rattle.excellon.specs.declared.file.Hole.{Hole}
 use Rattle.excellon.specs.declared.file.Slot.{Slot}
 use Rattle.excellon.specs.declared.file.DrillFile.{DrillFile}
 use Rattle.excellon.specs.Fits.{IsHole, IsSlot, IsDrilled}
-use Rattle.path_order.specs.Orders.{origin}
 use Rattle.drill_plan.specs.Sets.{Has}
 use Rattle.drill_plan.specs.Tools.{tool_of}
 use Rattle.drill_plan.specs.Entries.{by_rows, by_ends, is_hole, ends_of, hole_place, slot_place, places_of, slot_ends, slots_of}

@@ -20,10 +20,11 @@ use Rattle.excellon.specs.declared.line.Part.TheVariants as parts
 use Rattle.excellon.specs.declared.line.Said.{Said}
 use Rattle.excellon.specs.declared.line.Said.TheVariants as says
 use Rattle.excellon.specs.Words.{word_in, is_blank, is_left_out, start_words}
-use Rattle.excellon.specs.Numerals.{is_numeral, without_zeros, short_value, tool_number, number_before}
+use Rattle.excellon.specs.Numerals.{without_zeros, tool_number, number_before}
 use Rattle.excellon.specs.Header.{header_words, is_count, counts_of, format_of, fills_of, behind_comma, with_unit, letters_of, size_in, header_of, other_header, definition_of, metric_of, inch_of}
 use Rattle.excellon.specs.Body.{body_words, body_of, other_body, selection_of, pair_of, whole_pair, move_of, cut_of, behind_pair, coordinates_of, comment_of, line_of, filled_of, said_of}
 use Rattle.excellon.proofs.NumeralLaws.{all_digits, digits_left}
+use Rattle.fixed_num.specs.Numerals.{is_numeral, short_value}
 
 -- tools are defined in the header, whose end is told there; holes are drilled in the body, with tools of at most 9,999
 abbrev pub FitsPart : Part → Said → Type 0

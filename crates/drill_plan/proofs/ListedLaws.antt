@@ -18,7 +18,7 @@ use Rattle.board_base.specs.declared.places.Point.{Point}
 use Rattle.excellon.specs.declared.file.Hole.{Hole}
 use Rattle.excellon.specs.declared.file.Slot.{Slot}
 use Rattle.excellon.specs.declared.file.DrillFile.{DrillFile}
-use Rattle.path_order.specs.Orders.{origin}
+use Rattle.board_base.specs.Places.{origin}
 use Rattle.drill_plan.specs.Sets.{Has, HasEachOnce}
 use Rattle.drill_plan.specs.Tools.{tool_of, IsToolFor}
 use Rattle.drill_plan.specs.Entries.{by_rows, by_columns, by_ends, is_hole, ends_of, tools_of, hole_place, slot_place, places_of, slot_ends, slots_of}

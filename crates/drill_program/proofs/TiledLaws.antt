@@ -11,10 +11,11 @@ use Rattle.drill_plan.specs.declared.plans.ToolPlan.{ToolPlan}
 use Rattle.drill_plan.specs.Laws.{EntriesLaw}
 use Rattle.mill_program.specs.RunLaw.{RunLaw}
 use Rattle.mill_program.specs.Strokes.{StrokeLaw, Wanted, CutsExactly, wanted}
-use Rattle.tiling.specs.Tiles.{no_shift, tiled}
+use Rattle.tiling.specs.Tiles.{tiled}
 use Rattle.tiling.specs.Copies.{pos_in}
 use Rattle.tiling.specs.Laws.{wanted_in, wanted_in_tiles, WantedLaw}
 use Rattle.tiling.proofs.ProgramLaws.{runnable_in}
+use Rattle.board_base.specs.Places.{origin}
 use Rattle.drill_program.specs.Program.{tool_run, program_of}
 use Rattle.drill_program.specs.Holes.{tool_wants}
 use Rattle.drill_program.specs.Tiled.{wants_in, TiledHolesLaw, OneTileWantsLaw}
@@ -60,20 +61,20 @@ tiled_holes run_law stroke_law entries_law wanted_law job file plan shifts ok hi
 unmoved : (a : ℤ) → a +ℤ pos 0 *ℤ nanometre ≡ a
 unmoved a = omega (arith, ints)
 
-same_places : (places : List Pos) → map (pos_in no_shift) places ≡ places
+same_places : (places : List Pos) → map (pos_in origin) places ≡ places
 same_places [] = refl
 same_places (p ∷ places) = λ i. record { x = unmoved p.x i; y = unmoved p.y i; z = p.z } ∷ same_places places i
 
-same_wants : (wants : List Wanted) → map (wanted_in no_shift) wants ≡ wants
+same_wants : (wants : List Wanted) → map (wanted_in origin) wants ≡ wants
 same_wants [] = refl
 same_wants (want ∷ wants) = λ i. record { tool = want.tool; places = same_places want.places i } ∷ same_wants wants i
 
 one_tile_from : (job : Job) (n : ℕ) (plan : List ToolPlan)
-    → flat_map (λ t. flat_map (λ by. map (wanted_in by) (tool_wants job t.0 t.1)) (no_shift ∷ [])) (enumerate_from n plan) ≡ flat_map (λ t. tool_wants job t.0 t.1) (enumerate_from n plan)
+    → flat_map (λ t. flat_map (λ by. map (wanted_in by) (tool_wants job t.0 t.1)) (origin ∷ [])) (enumerate_from n plan) ≡ flat_map (λ t. tool_wants job t.0 t.1) (enumerate_from n plan)
 one_tile_from job n [] = refl
 one_tile_from job n (t ∷ plan) =
     let wants = tool_wants job n t in
-    let first : map (wanted_in no_shift) wants ++ [] ≡ wants = append-nil (map (wanted_in no_shift) wants) ∙ same_wants wants in
+    let first : map (wanted_in origin) wants ++ [] ≡ wants = append-nil (map (wanted_in origin) wants) ∙ same_wants wants in
     λ i. first i ++ one_tile_from job (n + 1) plan i
 
 pub one_tile_wants : OneTileWantsLaw

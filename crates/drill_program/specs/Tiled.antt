@@ -14,8 +14,9 @@ use Rattle.drill_plan.specs.Limits.{IsWithinLimits}
 use Rattle.mill_program.specs.Conditions.{IsProgram}
 use Rattle.mill_program.specs.Lines.{lines_of}
 use Rattle.mill_program.specs.Strokes.{Wanted, CutsExactly}
-use Rattle.tiling.specs.Tiles.{no_shift, tiled}
+use Rattle.tiling.specs.Tiles.{tiled}
 use Rattle.tiling.specs.Laws.{wanted_in}
+use Rattle.board_base.specs.Places.{origin}
 use Rattle.drill_program.specs.Program.{program_of}
 use Rattle.drill_program.specs.Holes.{tool_wants, wants_of}
 
@@ -37,4 +38,4 @@ TiledHolesLaw =
 
 -- in one tile the tools have to cut what they have to cut on the board alone
 abbrev pub OneTileWantsLaw : Type 0
-OneTileWantsLaw = (job : Job) (plan : List ToolPlan) → wants_in job (no_shift ∷ []) plan ≡ wants_of job plan
+OneTileWantsLaw = (job : Job) (plan : List ToolPlan) → wants_in job (origin ∷ []) plan ≡ wants_of job plan

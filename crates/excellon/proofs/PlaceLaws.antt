@@ -5,8 +5,7 @@ use Rattle.std.proofs.lemmas.Int.{ints}
 use Rattle.board_base.specs.declared.places.Point.{Point}
 use Rattle.board_base.specs.Places.{IsPlace, IsCoordinate}
 use Rattle.plane_arcs.proofs.RangeLaws.{inside_place}
-use Rattle.plane_arcs.specs.Turned.{in_range, point_at}
-use Rattle.excellon.specs.Checks.{is_far}
+use Rattle.plane_arcs.specs.Turned.{in_range, point_at, is_far}
 
 chosen : (p : Point) (b : Bool) → (in_range p.x && in_range p.y) ≡ b → (r : Option Point) → r ≡ cond b (Some p) None
     → MatchOption r (not b ≡ true) (λ q. (not b ≡ false) × (q ≡ p) × IsPlace q)

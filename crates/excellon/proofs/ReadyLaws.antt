@@ -8,10 +8,10 @@ use Rattle.std.proofs.lemmas.List.Elements.{All-append}
 use Rattle.std.proofs.lemmas.Int.{ints}
 use Rattle.board_base.specs.declared.places.Point.{Point}
 use Rattle.board_base.specs.Places.{IsPlace}
-use Rattle.plane_arcs.specs.Turned.{in_range}
+use Rattle.plane_arcs.specs.Turned.{in_range, is_far}
 use Rattle.excellon.specs.InForce.{InForce, diameter_of, routing_by, cutting_by}
 use Rattle.excellon.specs.Drilled.{act_of, tool_of, place_after, place_before, holes_with, slots_with}
-use Rattle.excellon.specs.Checks.{Held, first_fault, checks_of, fault_of, hits, is_empty, is_far, is_wide, are_many}
+use Rattle.excellon.specs.Checks.{Held, first_fault, checks_of, fault_of, hits, is_empty, is_wide, are_many}
 use Rattle.excellon.specs.Fits.{IsFormat, IsSaid, IsDiameter, IsHole, IsSlot}
 use Rattle.excellon.specs.State.{kept, after, Steps, IsReady}
 use Rattle.excellon.specs.declared.acts.Effect.{Effect}

@@ -1,7 +1,7 @@
 -- The checks of a line, in their order.
 use Rattle.std.specs.Prelude.{◌+◌, ℤ, pos, Bool, true, false, List, [], ◌∷◌, ◌++◌, length, Option, Some, None, is_none, ◌==◌, if◌then◌else◌, ◌&&◌, ◌||◌, not, nat_lt, int_le}
 use Rattle.board_base.specs.declared.places.Point.{Point}
-use Rattle.plane_arcs.specs.Turned.{in_range}
+use Rattle.plane_arcs.specs.Turned.{is_far}
 use Rattle.excellon.specs.Numbers.{format_in}
 use Rattle.excellon.specs.InForce.{InForce, in_force, diameter_of}
 use Rattle.excellon.specs.Drilled.{act_of, place_after, place_before, tool_of, holes_after, slots_after, holes_by, slots_by}
@@ -73,10 +73,6 @@ is_empty (Some diameter) = int_le diameter (pos 0)
 is_empty None = false
 
 -- OutOfRange.
-
--- the point is past the range
-abbrev pub is_far : Point → Bool
-is_far p = not (in_range p.x && in_range p.y)
 
 -- the diameter is
 abbrev pub is_wide : Option ℤ → Bool

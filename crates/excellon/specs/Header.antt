@@ -4,7 +4,8 @@ use Rattle.std.specs.List.{list_all}
 use Rattle.std.specs.Option.{option_or}
 use Rattle.board_base.specs.OptionBinds.{◌>>=◌}
 use Rattle.text_cut.specs.Split.{after, halves}
-use Rattle.excellon.specs.Numerals.{is_zero, tool_number, is_number_byte, number_before, decimal_in}
+use Rattle.fixed_num.specs.Values.{is_zero}
+use Rattle.excellon.specs.Numerals.{tool_number, is_number_byte, number_before, decimal_in}
 use Rattle.excellon.specs.Words.{word_in, is_left_out}
 use Rattle.excellon.specs.declared.line.Unit.{Unit}
 use Rattle.excellon.specs.declared.line.Unit.TheVariants as units

@@ -3,9 +3,9 @@ ghost use Rattle.std.specs.Prelude.{◌≡◌, ◌<◌, ◌≤◌, ◌^◌, ◌|
 ghost use Rattle.std.specs.List.{list_all};
 ghost use Rattle.std.specs.Option.{option_or};
 ghost use Rattle.std.specs.Str.{bytes_eq};
+ghost use Rattle.fixed_num.specs.Values.{is_zero};
 ghost use Rattle.excellon.specs.Fits.{IsSaid, IsFormat};
 ghost use Rattle.text_cut.specs.Split.{after as after_in};
-ghost use Rattle.excellon.specs.Numerals.{is_zero};
 ghost use Rattle.excellon.specs.Words.{word_in};
 ghost use Rattle.excellon.specs.Header.{header_words, is_count as is_count_of, counts_of, format_of, zeros_in, picture_of, fills_of, behind_comma as behind_comma_of, with_unit as with_unit_of, metric_of, inch_of, letters_of, one_size as one_size_of, with_letter as with_letter_of, size_in, definition_of, other_header, header_of};
 

@@ -1,10 +1,10 @@
 // Coordinates and diameters in nanometres, and tests of two facts.
 ghost use Rattle.std.specs.Prelude.{◌≡◌, ◌<◌, ◌≤◌, ◌^◌, pos, ◌≤ℤ◌, MatchOption, Some, None, ◌&&◌, unwrap_or, unsigned_abs, IfSome, true, false};
 ghost use Rattle.board_base.specs.Places.{IsPlace};
+ghost use Rattle.plane_arcs.specs.Turned.{is_far};
 ghost use Rattle.excellon.specs.Fits.{IsFormat, IsWritten};
 ghost use Rattle.excellon.specs.Numbers.{unit_size as unit_size_of, length_of, nanometres as nanometres_of, filled as filled_of, coordinate_of, format_in};
 ghost use Rattle.excellon.specs.InForce.{said_coordinate};
-ghost use Rattle.excellon.specs.Checks.{is_far};
 
 use crate::line::{Coordinate, Format, Unit};
 use board_base::Point;

@@ -4,8 +4,10 @@ ghost use Rattle.std.specs.Char.{is_ascii_digit};
 ghost use Rattle.std.specs.List.{list_all, list_any, position, position_or_len};
 ghost use Rattle.std.specs.Str.Parse.{AllDigits, digits_value, digits_value_after};
 ghost use Rattle.fixed_num.specs.Decimal.{signed};
-ghost use Rattle.fixed_num.specs.Spelled.{sign_of, behind_sign as behind_sign_in};
-ghost use Rattle.excellon.specs.Numerals.{is_numeral as is_numeral_in, short_value as short_value_of, is_zero, without_zeros as without_zeros_in, tool_number as tool_number_of, is_point, is_number_byte as is_number_byte_in, number_before as number_before_in, decimal_in, digits_of, coordinate_in};
+ghost use Rattle.fixed_num.specs.Spelled.{sign_of, behind_sign as behind_sign_in, is_point};
+ghost use Rattle.fixed_num.specs.Numerals.{is_numeral as is_numeral_in, short_value as short_value_of};
+ghost use Rattle.fixed_num.specs.Values.{is_zero};
+ghost use Rattle.excellon.specs.Numerals.{without_zeros as without_zeros_in, tool_number as tool_number_of, is_number_byte as is_number_byte_in, number_before as number_before_in, decimal_in, digits_of, coordinate_in};
 ghost use Rattle.excellon.specs.Fits.{IsWritten};
 
 use crate::line::Coordinate;
@@ -42,7 +44,7 @@ fn value_of(digits: &[u8]) -> u64
 }
 
 // The number of at most 18 digits, or 0.
-#[tactic(auto, unfolding(crate::specs::Numerals::short_value))]
+#[tactic(auto, unfolding(fixed_num::specs::Numerals::short_value))]
 fn short_value(digits: &[u8]) -> u64
     requires { AllDigits 10 digits.now }
     ensures value { result ≡ short_value_of digits.now }

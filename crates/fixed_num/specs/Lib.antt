@@ -1,4 +1,5 @@
 pub mod Decimal
+pub mod Numerals
 pub mod Fixed
 pub mod Spelled
 pub mod Shown

@@ -7,14 +7,14 @@ use Rattle.std.proofs.Math.Nat.{mul-le-mul_right}
 use Rattle.std.proofs.lemmas.Grind.{common_steps}
 use Rattle.std.proofs.lemmas.Int.{ints}
 use Rattle.number_laws.proofs.Tests.{by_bool}
-use Rattle.plane_arcs.specs.Turned.{in_range}
+use Rattle.plane_arcs.specs.Turned.{in_range, is_far}
 use Rattle.board_base.specs.declared.places.Point.{Point}
 use Rattle.shape_parts.specs.declared.shape.Part.{Part}
 use Rattle.shape_parts.specs.declared.shape.Part.TheVariants.{Disc, Capsule, Area}
 use Rattle.shape_parts.specs.declared.shape.Piece.{Piece}
 use Rattle.apertures.specs.Defined.{at}
 use Rattle.gerber_image.specs.Image.{shifted_point, shifted_part, shifted_piece, shifted, copy, copies_of}
-use Rattle.gerber_image.specs.Checks.{is_far, part_leaves, piece_leaves, is_outside}
+use Rattle.gerber_image.specs.Checks.{part_leaves, piece_leaves, is_outside}
 use Rattle.gerber_image.specs.Copies.{AreInside}
 use Rattle.gerber_image.specs.declared.repeat.Repeat.{Repeat}
 use Rattle.shape_parts.specs.declared.shape.Painted.{Painted}

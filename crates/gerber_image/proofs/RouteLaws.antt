@@ -1,10 +1,11 @@
 -- The faults of operations.
 use Rattle.std.proofs.Common.{◌≡◌, Bool, true, false, Some, None}
 use Rattle.std.specs.Prelude.{if◌then◌else◌, ◌&&◌, ◌||◌}
+use Rattle.plane_arcs.specs.Turned.{is_far}
 use Rattle.gerber_image.specs.InForce.{InForce}
 use Rattle.plane_arcs.specs.Arcs.{chain_of}
 use Rattle.gerber_image.specs.Routes.{place_after, mode_after, is_curved, arc_of, arc_centre}
-use Rattle.gerber_image.specs.Checks.{is_open, is_past, is_far}
+use Rattle.gerber_image.specs.Checks.{is_open, is_past}
 use Rattle.gerber_image.specs.State.{route_fault, Stops}
 use Rattle.gerber_image.specs.declared.state.Stop.{Stop}
 use Rattle.gerber_image.specs.declared.state.Stop.TheVariants as stops

@@ -9,14 +9,14 @@ use Rattle.std.proofs.lemmas.Int.{ints}
 use Rattle.number_laws.proofs.Tests.{by_bool}
 use Rattle.board_base.specs.Places.{IsCoordinate, IsPlace}
 use Rattle.board_base.specs.declared.places.Point.{Point}
-use Rattle.plane_arcs.specs.Turned.{in_range}
+use Rattle.plane_arcs.specs.Turned.{in_range, is_far}
 use Rattle.poly_area.specs.Moved.{all_moved, moved_points, moved_loops}
 use Rattle.shape_parts.specs.declared.shape.Part.{Part}
 use Rattle.shape_parts.specs.declared.shape.Part.TheVariants.{Disc, Capsule, Area}
 use Rattle.shape_parts.specs.declared.shape.Piece.{Piece}
 use Rattle.shape_parts.specs.Moved.{moved_part, moved_pieces}
 use Rattle.gerber_image.specs.Image.{shifted_point, shifted_part, shifted_piece}
-use Rattle.gerber_image.specs.Checks.{is_far, part_leaves, piece_leaves}
+use Rattle.gerber_image.specs.Checks.{part_leaves, piece_leaves}
 use Rattle.gerber_image.specs.Copies.{shift_of}
 use Rattle.gerber_image.specs.declared.repeat.Shift.{Shift}
 

@@ -3,7 +3,6 @@ use Rattle.std.specs.Prelude.{◌+◌, ◌||◌, pos, Bool, true, false, List, [
 use Rattle.std.specs.Option.{option_or}
 use Rattle.std.specs.List.{list_any}
 use Rattle.board_base.specs.declared.places.Point.{Point}
-use Rattle.plane_arcs.specs.Turned.{in_range}
 use Rattle.shape_parts.specs.declared.shape.Part.{Part}
 use Rattle.plane_arcs.specs.declared.arcs.ArcError.{ArcError}
 use Rattle.plane_arcs.specs.declared.arcs.ArcError.TheVariants as arc_errors
@@ -20,6 +19,7 @@ use Rattle.apertures.specs.declared.aperture.Unit.{Unit}
 use Rattle.apertures.specs.declared.aperture.Unit.TheVariants as units
 use Rattle.apertures.specs.Figures.{Figure}
 use Rattle.apertures.specs.Placed.{placed}
+use Rattle.plane_arcs.specs.Turned.{is_far}
 use Rattle.gerber_image.specs.InForce.{InForce, in_force, defined_under, x_format, y_format}
 use Rattle.gerber_image.specs.Routes.{place_after, mode_after, is_curved, arc_centre, route}
 use Rattle.gerber_image.specs.Regions.{Outline}
@@ -208,10 +208,6 @@ macro_kind fault = kinds.Macro (unwrap_or fault faults.Memory)
 abbrev pub is_great : Result Figure ApertureError → Bool
 is_great (Err errors.OutOfRange) = true
 is_great _ = false
-
--- the point is past the range
-abbrev pub is_far : Point → Bool
-is_far p = not (in_range p.x && in_range p.y)
 
 -- a point of the part is
 abbrev pub part_leaves : Part → Bool

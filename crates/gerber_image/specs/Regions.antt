@@ -7,6 +7,7 @@ use Rattle.shape_parts.specs.declared.shape.Part.TheVariants.{Area}
 use Rattle.shape_parts.specs.declared.shape.Piece.{Piece}
 use Rattle.shape_parts.specs.declared.shape.Painted.{Painted}
 use Rattle.apertures.specs.Defined.{solid}
+use Rattle.board_base.specs.Places.{same_point}
 
 -- the contours of an open region: those that are ended, and the points so far of the one that isn't
 pub record Outline : Type 0 where
@@ -21,10 +22,6 @@ no_outline = record { ended = []; points = [] }
 abbrev pub contours_of : Outline → List (List Point)
 contours_of outline = outline.ended ++ outline.points ∷ []
 
--- one and the same place
-abbrev pub same_place : Point → Point → Bool
-same_place a b = int_eq a.x b.x && int_eq a.y b.y
-
 -- the last of the points, where p stands before them
 abbrev pub last_behind : Point → List Point → Point
 last_behind p [] = p
@@ -33,7 +30,7 @@ last_behind p (q ∷ points) = last_behind q points
 -- a contour without its last point, where that is the first one again
 abbrev pub without_return : List Point → List Point
 without_return [] = []
-without_return (p ∷ points) = if same_place p (last_behind p points) then take (length points) (p ∷ points) else p ∷ points
+without_return (p ∷ points) = if same_point p (last_behind p points) then take (length points) (p ∷ points) else p ∷ points
 
 -- an area of these points, where they are three or more
 abbrev pub area_through : List Point → List Piece

@@ -6,12 +6,13 @@ use Rattle.std.specs.List.{list_any}
 use Rattle.std.specs.BTreeMap.{get}
 use Rattle.board_base.specs.Places.{IsPlace}
 use Rattle.apertures.specs.declared.place.Mirror.TheVariants as mirrors
+use Rattle.plane_arcs.specs.Turned.{is_far}
 use Rattle.gerber_image.specs.InForce.{InForce, sets_format, sets_unit, sets_dark, sets_mirror, sets_angle, sets_mode, sets_multi_quadrant, sets_region, sets_selected, sets_act, sets_x, sets_y, sets_aperture, sets_repeat, macros_after}
 use Rattle.apertures.specs.Defined.{at}
 use Rattle.gerber_image.specs.Regions.{no_outline}
 use Rattle.gerber_image.specs.Routes.{place_after, route}
 use Rattle.gerber_image.specs.Image.{outline_after, block_after, painted_after, copies, figure_of}
-use Rattle.gerber_image.specs.Checks.{Held, fault_of, is_outside, excess_of, is_open, is_far, is_flash, draw_leaves, flash_leaves}
+use Rattle.gerber_image.specs.Checks.{Held, fault_of, is_outside, excess_of, is_open, is_flash, draw_leaves, flash_leaves}
 use Rattle.gerber_words.specs.Fits.{IsFormat}
 use Rattle.gerber_words.specs.declared.commands.Interpolation.TheVariants as modes
 use Rattle.gerber_words.specs.declared.commands.Act.{Act}

@@ -1,9 +1,9 @@
 // Contours of regions, and the areas that they bound.
 ghost use Rattle.std.specs.Prelude.{◌≡◌, ◌∷◌, [], ◌++◌, ◌≤◌, length, take, drop, OnOk, OnErr, IfOk, IfErr, Some, None, map, pos};
 ghost use Rattle.std.specs.List.{All, flat_map, list_any};
-ghost use Rattle.board_base.specs.Places.{IsPlace};
+ghost use Rattle.board_base.specs.Places.{IsPlace, same_point};
 ghost use Rattle.shape_parts.specs.Vertices.{vertices_of};
-ghost use Rattle.gerber_image.specs.Regions.{same_place as same_place_of, last_behind as last_behind_of, without_return as without_return_of, area_through, area_of};
+ghost use Rattle.gerber_image.specs.Regions.{last_behind as last_behind_of, without_return as without_return_of, area_through, area_of};
 ghost use Rattle.gerber_image.specs.Image.{shifted_piece};
 ghost use Rattle.gerber_image.specs.Checks.{piece_leaves};
 
@@ -36,7 +36,7 @@ impl Model for Contour {
 
 // Whether these are one and the same place.
 fn is_same_place(a: Point, b: Point) -> bool
-    ensures { result ≡ same_place_of a b }
+    ensures { result ≡ same_point a b }
 {
     a.x == b.x && a.y == b.y
 }

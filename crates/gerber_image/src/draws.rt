@@ -5,8 +5,9 @@ ghost use Rattle.board_base.specs.Places.{IsPlace, IsCoordinate};
 ghost use Rattle.plane_arcs.specs.Arcs.{chain_of};
 ghost use Rattle.plane_arcs.specs.Vectors.{IsArcPlace};
 ghost use Rattle.gerber_words.specs.Fits.{AreWritten};
+ghost use Rattle.plane_arcs.specs.Turned.{is_far};
 ghost use Rattle.gerber_image.specs.Routes.{x_after, y_after, place_after, mode_after, is_curved as is_curved_of, turns_left as turns_left_of, arc_centre, arc_of, route};
-ghost use Rattle.gerber_image.specs.Checks.{has_long, is_draw, is_far, is_open, is_past, draw_leaves};
+ghost use Rattle.gerber_image.specs.Checks.{has_long, is_draw, is_open, is_past, draw_leaves};
 ghost use Rattle.gerber_image.specs.State.{held_of, IsReady, Stops, route_fault};
 
 use crate::numbers::{coordinate, is_far, point, short_coordinate, x_format, y_format};

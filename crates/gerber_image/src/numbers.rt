@@ -3,7 +3,8 @@ ghost use Rattle.std.specs.Prelude.{◌≡◌, ◌<◌, ◌≤◌, ◌^◌, ◌*
 ghost use Rattle.apertures.specs.Texts.{IsSize};
 ghost use Rattle.board_base.specs.Places.{IsPlace};
 ghost use Rattle.apertures.specs.Defined.{at};
-ghost use Rattle.gerber_image.specs.Checks.{is_far as is_far_of, is_long};
+ghost use Rattle.plane_arcs.specs.Turned.{is_far as is_far_of};
+ghost use Rattle.gerber_image.specs.Checks.{is_long};
 ghost use Rattle.gerber_words.specs.Fits.{IsAxisFormat, IsFormat, IsWritten};
 ghost use Rattle.gerber_image.specs.Numbers.{unit_size as unit_size_of, nanometres as nanometres_of};
 ghost use Rattle.gerber_image.specs.InForce.{x_format as x_format_of, y_format as y_format_of, coordinate_of, step_length as step_length_of};

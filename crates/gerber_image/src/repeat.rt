@@ -2,8 +2,9 @@
 ghost use Rattle.std.specs.Prelude.{◌≡◌, ◌++◌, ◌<◌, ◌≤◌, ◌+◌, ◌*◌, ◌^◌, ◌||◌, pos, false, length, map, nat_lt, OnOk, IfOk, ◌+ℤ◌};
 ghost use Rattle.std.specs.List.{All, list_any, flat_map, range_with_len};
 ghost use Rattle.board_base.specs.Places.{IsPlace};
+ghost use Rattle.plane_arcs.specs.Turned.{is_far};
 ghost use Rattle.gerber_image.specs.Image.{shifted_point, shifted_piece, shifted, copy, copies_of, vertices_in};
-ghost use Rattle.gerber_image.specs.Checks.{is_far, piece_leaves, is_outside, excess_of};
+ghost use Rattle.gerber_image.specs.Checks.{piece_leaves, is_outside, excess_of};
 ghost use Rattle.gerber_image.specs.State.{IsRepeat};
 ghost use Rattle.gerber_image.specs.Copies.{AreInside, shift_of};
 

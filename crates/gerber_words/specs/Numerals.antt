@@ -5,15 +5,8 @@ use Rattle.std.specs.List.{list_all, position_or_len}
 use Rattle.std.specs.Str.Parse.{digits_value}
 use Rattle.fixed_num.specs.Decimal.{signed}
 use Rattle.fixed_num.specs.Spelled.{sign_of, behind_sign}
+use Rattle.fixed_num.specs.Numerals.{is_numeral, short_value}
 use Rattle.gerber_words.specs.declared.commands.Digits.{Digits}
-
--- at least one digit, and digits alone
-abbrev pub is_numeral : List ℕ → Bool
-is_numeral text = nat_lt 0 (length text) && list_all is_ascii_digit text
-
--- the number of at most 18 digits, or 0: more of them are never read as a number
-unfoldable pub short_value : List ℕ → ℕ
-short_value digits = if nat_le (length digits) 18 then digits_value 10 digits else 0
 
 -- the number that at most 18 digits write
 unfoldable pub number_of : List ℕ → Option ℕ

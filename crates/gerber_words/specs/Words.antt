@@ -6,7 +6,8 @@ use Rattle.std.specs.Str.{bytes_eq}
 use Rattle.board_base.specs.OptionBinds.{◌>>=◌}
 use Rattle.apertures.specs.declared.aperture.Unit.TheVariants as units
 use Rattle.text_cut.specs.Split.{after}
-use Rattle.gerber_words.specs.Numerals.{is_numeral, number_of, digits_of, signed_before}
+use Rattle.fixed_num.specs.Numerals.{is_numeral}
+use Rattle.gerber_words.specs.Numerals.{number_of, digits_of, signed_before}
 use Rattle.gerber_words.specs.declared.commands.Act.{Act}
 use Rattle.gerber_words.specs.declared.commands.Act.TheVariants as acts
 use Rattle.gerber_words.specs.declared.commands.Interpolation.{Interpolation}

@@ -5,7 +5,8 @@ ghost use Rattle.std.specs.List.{list_all, position};
 ghost use Rattle.std.specs.Str.Parse.{AllDigits, digits_value, digits_value_after};
 ghost use Rattle.fixed_num.specs.Decimal.{signed};
 ghost use Rattle.fixed_num.specs.Spelled.{sign_of, behind_sign as behind_sign_in};
-ghost use Rattle.gerber_words.specs.Numerals.{is_numeral as is_numeral_in, short_value as short_value_of, number_of, digits_of, is_signed_digit as is_signed_digit_in, signed_before as signed_before_in};
+ghost use Rattle.fixed_num.specs.Numerals.{is_numeral as is_numeral_in, short_value as short_value_of};
+ghost use Rattle.gerber_words.specs.Numerals.{number_of, digits_of, is_signed_digit as is_signed_digit_in, signed_before as signed_before_in};
 ghost use Rattle.gerber_words.specs.Fits.{IsWritten};
 
 use crate::commands::Digits;
@@ -41,7 +42,7 @@ fn value_of(digits: &[u8]) -> u64
 }
 
 // The number of at most 18 digits, or 0.
-#[tactic(auto, unfolding(crate::specs::Numerals::short_value))]
+#[tactic(auto, unfolding(fixed_num::specs::Numerals::short_value))]
 fn short_value(digits: &[u8]) -> u64
     requires { AllDigits 10 digits.now }
     ensures value { result ≡ short_value_of digits.now }

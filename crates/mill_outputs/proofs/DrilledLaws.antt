@@ -9,12 +9,12 @@ use Rattle.std.proofs.lemmas.Int.{ints}
 use Rattle.board_base.specs.declared.places.Point.{Point}
 use Rattle.board_base.specs.Places.{IsPlace}
 use Rattle.text_cut.specs.Lines.{Line, lines_from}
-use Rattle.plane_arcs.specs.Turned.{in_range}
+use Rattle.plane_arcs.specs.Turned.{in_range, is_far}
 use Rattle.plane_arcs.proofs.RangeLaws.{inside_place}
 use Rattle.excellon.specs.Body.{said_of}
 use Rattle.excellon.specs.InForce.{diameter_of, part_at}
 use Rattle.excellon.specs.Drilled.{act_of, tool_of, place_after, place_before, holes_with, slots_with, drilled_by}
-use Rattle.excellon.specs.Checks.{Held, held, first_fault, checks_of, fault_of, hits, is_empty, is_far, is_wide, are_many}
+use Rattle.excellon.specs.Checks.{Held, held, first_fault, checks_of, fault_of, hits, is_empty, is_wide, are_many}
 use Rattle.excellon.specs.Fits.{IsDiameter, IsHole, IsSlot, IsDrilled}
 use Rattle.excellon.specs.State.{after}
 use Rattle.excellon.specs.Drill.{Outcome, drill_of, outcome_in, told, led, is_end}

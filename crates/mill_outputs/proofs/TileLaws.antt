@@ -13,7 +13,7 @@ use Rattle.mill_program.specs.Conditions.{IsProgram, IsRunnable}
 use Rattle.mill_program.specs.Lines.{lines_of}
 use Rattle.grid_writer.specs.Laws.{SpellingOverLaw}
 use Rattle.tiling.specs.declared.TileError.{TileError}
-use Rattle.tiling.specs.Tiles.{no_shift, tiled, shifts_of, first_past}
+use Rattle.tiling.specs.Tiles.{tiled, shifts_of, first_past}
 use Rattle.tiling.specs.Copies.{Tile, tiles_of, shift_in, tiled_in}
 use Rattle.tiling.specs.Stretches.{TiledProgramLaw}
 use Rattle.tiling.specs.Laws.{OneShiftLaw, OneTileLaw, ShiftsLaw, SomeShiftsLaw, TileValueLaw}
@@ -23,6 +23,7 @@ use Rattle.job_file.proofs.FitLaws.{step}
 use Rattle.mill_plan.specs.declared.isolation.Isolation.{Isolation}
 use Rattle.side_runs.specs.Alone.{alone, ApartLaw}
 use Rattle.mill_inputs.proofs.ContentLaws.{ok_is}
+use Rattle.board_base.specs.Places.{origin}
 use Rattle.mill_outputs.specs.declared.plans.Plans.{Plans}
 use Rattle.mill_outputs.specs.declared.plans.Programs.{Programs}
 use Rattle.mill_outputs.specs.Written.{frames_of, step_by, tiles_by, seen_in_front, seen_behind, front_step, back_step, or_refused, front_grid, levelled_if, in_tiles, in_tiles_if, Plain, all_in_tiles}
@@ -68,7 +69,7 @@ in_text spelled pitch tiles p q P t runs = subst (λ (r : Program). Runs (progra
 pub in_one_tile : TilingLaws → (job : Job) (tiles : List Tile) (by : Tile) (p q : Program) → job.tile_x ≡ 1 → job.tile_y ≡ 1 → tiles ≡ tiles_by job by → q ≡ tiled_in job.pitch tiles p → q ≡ p
 in_one_tile laws job tiles by p q across up rows is =
     let step = shift_in job.pitch by in
-    let shifts : map (shift_in job.pitch) tiles ≡ no_shift ∷ [] =
+    let shifts : map (shift_in job.pitch) tiles ≡ origin ∷ [] =
     ap (map (shift_in job.pitch)) rows ∙ sym (laws.shifts job.tile_x job.tile_y job.pitch by) ∙ ap (λ n. shifts_of n job.tile_y step) across ∙ ap (λ n. shifts_of 1 n step) up ∙ laws.one_shift step in
     is ∙ ap (λ s. tiled s p) shifts ∙ laws.one_tile p
 

@@ -14,12 +14,12 @@ use Rattle.chain_walk.specs.RowRuns.{AreRowRuns}
 use Rattle.chain_walk.proofs.Chaining.{not_both}
 use Rattle.chain_walk.proofs.OneRuns.{one_list, rising, one_row_runs}
 use Rattle.chain_walk.proofs.Unique.{one_walk}
-use Rattle.path_order.specs.Orders.{origin as start}
 use Rattle.path_order.proofs.Unique.{one_order}
 use Rattle.mill_plan.specs.declared.cutting.Cutting.{Cutting}
 use Rattle.mill_plan.specs.Cutting.{guard, kept_by}
 use Rattle.mill_plan.specs.Cuts.{starts_of, AreOrdered, ArePassWalks, AreClearingRuns}
 use Rattle.mill_plan.proofs.SideLaws.{same_test}
+use Rattle.board_base.specs.Places.{origin as start}
 use Rattle.one_programs.proofs.CellOrder.{before_later, one_cell}
 
 -- ---- the walks of a set

@@ -5,7 +5,8 @@ use Rattle.std.specs.List.Sorted.{IsPermutation}
 use Rattle.std.proofs.lemmas.List.Sorted.{IsPermutation-refl, IsPermutation-trans}
 use Rattle.std.proofs.lemmas.Bool.{cases_eq, false≢true}
 use Rattle.board_base.specs.declared.places.Point.{Point}
-use Rattle.path_order.specs.Orders.{origin, IsOrder, IsNearestOrder}
+use Rattle.board_base.specs.Places.{origin}
+use Rattle.path_order.specs.Orders.{IsOrder, IsNearestOrder}
 use Rattle.path_order.specs.Tours.{way_of, swept, swept_times, IsSettled, IsImproved}
 use Rattle.path_order.specs.Trials.{AreIndices, IsTried, IsQuiet}
 use Rattle.path_order.proofs.Ordering.{indices_of}

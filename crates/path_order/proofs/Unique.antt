@@ -10,8 +10,9 @@ use Rattle.std.proofs.lemmas.Map.Keys.{IsDistinct-IsPermutation, apart_from_dist
 use Rattle.std.proofs.lemmas.Bool.{cases_eq, cases_lt, eq-eqb, false≢true}
 use Rattle.number_laws.proofs.Tests.{by_bool}
 use Rattle.board_base.specs.declared.places.Point.{Point}
+use Rattle.board_base.specs.Places.{origin}
 use Rattle.path_order.specs.declared.tours.Sweeps.{Sweeps}
-use Rattle.path_order.specs.Orders.{point_at, origin, place_before, IsOrder, IsNearer, IsNearestOrder, OneOrder}
+use Rattle.path_order.specs.Orders.{point_at, place_before, IsOrder, IsNearer, IsNearestOrder, OneOrder}
 use Rattle.path_order.specs.Tours.{way_of, swept_times, swept, IsTour, OneTour}
 use Rattle.path_order.proofs.Ordering.{indices_of}
 

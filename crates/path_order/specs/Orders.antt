@@ -3,15 +3,11 @@ use Rattle.std.specs.Prelude.{◌≡◌, ◌≢◌, ℕ, zero, suc, ◌<◌, ◌
 use Rattle.std.specs.List.{range_with_len, All}
 use Rattle.std.specs.List.Sorted.{IsPermutation}
 use Rattle.board_base.specs.declared.places.Point.{Point}
-use Rattle.board_base.specs.Places.{IsPlace}
+use Rattle.board_base.specs.Places.{IsPlace, origin}
 
 -- the Chebyshev distance: the greater of the distances in x and in y
 unfoldable pub far_of : Point → Point → ℕ
 far_of a b = max (unsigned_abs (a.x -ℤ b.x)) (unsigned_abs (a.y -ℤ b.y))
-
--- the point at the origin
-abbrev pub origin : Point
-origin = record { x = pos 0; y = pos 0 }
 
 -- the point with an index
 abbrev pub point_at : List Point → ℕ → Point

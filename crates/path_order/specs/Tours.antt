@@ -1,8 +1,9 @@
 -- Tours: orders that are swept until no reversal of a stretch shortens them.
 use Rattle.std.specs.Prelude.{◌≡◌, ℕ, zero, suc, ◌+◌, ◌-◌, ◌<◌, ◌≤◌, nat_lt, true, false, cond, List, [], ◌∷◌, ◌++◌, length, map, take, drop, reverse}
 use Rattle.board_base.specs.declared.places.Point.{Point}
+use Rattle.board_base.specs.Places.{origin}
 use Rattle.path_order.specs.declared.tours.Sweeps.{Sweeps}
-use Rattle.path_order.specs.Orders.{far_of, point_at, origin, IsNearestOrder}
+use Rattle.path_order.specs.Orders.{far_of, point_at, IsNearestOrder}
 
 -- the sum of the distances of successive points
 abbrev pub travel_of : List Point → ℕ

@@ -1,7 +1,7 @@
 // Tours: orders that are swept until no reversal of a stretch shortens them.
 ghost use Rattle.std.specs.Prelude.{◌≡◌, ◌<◌, ◌≤◌, ◌+◌, ◌-◌, ◌*◌, ℕ, true, false, nat_lt, drop, length, slice_index, IfOk, map};
-ghost use Rattle.board_base.specs.Places.{IsPlace};
-ghost use Rattle.path_order.specs.Orders.{point_at, origin, ArePlaces, IsOrder, IsNearestOrder};
+ghost use Rattle.board_base.specs.Places.{IsPlace, origin};
+ghost use Rattle.path_order.specs.Orders.{point_at, ArePlaces, IsOrder, IsNearestOrder};
 ghost use Rattle.path_order.specs.Tours.{way_of, turned, tried, tries, swept as swept_of, IsSettled, IsImproved, OneTour};
 ghost use Rattle.path_order.specs.Trials.{way_from, from_place, IsStart, AreIndices, IsTried, IsQuietRow, IsQuiet};
 

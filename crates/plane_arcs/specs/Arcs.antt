@@ -2,11 +2,12 @@
 use Rattle.std.specs.Prelude.{◌≡◌, ◌⊎◌, ℕ, zero, suc, ◌+◌, ◌-◌, nat_lt, pos, Bool, false, if◌then◌else◌, ◌&&◌, ◌||◌, not, List, [], ◌∷◌, ◌++◌, map, Result, Ok, Err}
 use Rattle.std.specs.List.{list_all}
 use Rattle.board_base.specs.declared.places.Point.{Point}
+use Rattle.board_base.specs.Places.{same_point}
 use Rattle.plane_arcs.specs.declared.arcs.Arc.{Arc}
 use Rattle.plane_arcs.specs.declared.arcs.ArcError.{ArcError}
 use Rattle.plane_arcs.specs.declared.arcs.ArcError.TheVariants.{OpenArc, PastRange, Memory}
 use Rattle.plane_arcs.specs.Turned.{in_range}
-use Rattle.plane_arcs.specs.Vectors.{vector, added, same_vector, is_zero, vector_length, between, turned, last_quarter}
+use Rattle.plane_arcs.specs.Vectors.{vector, added, is_zero, vector_length, between, turned, last_quarter}
 
 -- how many times a quarter of a circle of radius r is halved
 unfoldable pub bisections : ℕ → ℕ
@@ -48,7 +49,7 @@ apart a b = (a - b) + (b - a)
 -- whether the ends of an arc don't lie on one circle: their distances from the centre differ by more than 50,000, or
 -- one of them is the centre and the other one isn't
 unfoldable pub is_open : Point → Point → Bool
-is_open u v = nat_lt 50000 (apart (vector_length u) (vector_length v)) || ((is_zero u || is_zero v) && not (same_vector u v))
+is_open u v = nat_lt 50000 (apart (vector_length u) (vector_length v)) || ((is_zero u || is_zero v) && not (same_point u v))
 
 -- whether a point is in the range
 abbrev pub is_inside : Point → Bool

@@ -1,8 +1,9 @@
 -- Points in the range, and points turned about the origin.
-use Rattle.std.specs.Prelude.{ℤ, pos, ◌+ℤ◌, ◌-ℤ◌, ◌*ℤ◌, unsigned_abs, nat_le, Bool, if◌then◌else◌, ◌&&◌, Option, Some, None}
+use Rattle.std.specs.Prelude.{ℤ, pos, ◌+ℤ◌, ◌-ℤ◌, ◌*ℤ◌, Bool, not, if◌then◌else◌, ◌&&◌, Option, Some, None}
 use Rattle.board_base.specs.declared.places.Point.{Point}
 use Rattle.fixed_num.specs.Rounding.{round_div_of}
 use Rattle.fixed_num.specs.Angles.{sine_of, cosine_of}
+use Rattle.board_base.specs.Places.{is_coordinate}
 
 -- the coordinates of a point turned about the origin, in whole nanometres
 unfoldable pub turned_x : Point → ℤ → ℤ
@@ -13,7 +14,11 @@ turned_y p angle = round_div_of (p.x *ℤ sine_of angle +ℤ p.y *ℤ cosine_of 
 
 -- whether a coordinate is at most 500 mm in size
 unfoldable pub in_range : ℤ → Bool
-in_range v = nat_le (unsigned_abs v) 500000000
+in_range v = is_coordinate v
+
+-- a point is past the range
+abbrev pub is_far : Point → Bool
+is_far p = not (in_range p.x && in_range p.y)
 
 -- the point with these coordinates, where both are in the range
 abbrev pub point_at : ℤ → ℤ → Option Point

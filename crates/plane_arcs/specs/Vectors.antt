@@ -27,10 +27,6 @@ vector from to = record { x = to.x -ℤ from.x; y = to.y -ℤ from.y }
 unfoldable pub added : Point → Point → Point
 added a b = record { x = a.x +ℤ b.x; y = a.y +ℤ b.y }
 
--- whether two vectors are the same
-abbrev pub same_vector : Point → Point → Bool
-same_vector a b = int_eq a.x b.x && int_eq a.y b.y
-
 -- whether a vector has no length
 abbrev pub is_zero : Point → Bool
 is_zero v = int_eq v.x (pos 0) && int_eq v.y (pos 0)

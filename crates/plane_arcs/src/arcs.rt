@@ -1,9 +1,9 @@
 //! Circular arcs as chains of chords.
 ghost use Rattle.std.specs.Prelude.{◌≡◌, ◌≤◌, ◌+◌, ◌+ℤ◌, ◌++◌, ◌∷◌, [], OnOk, IfOk, MatchResult, Ok, Err, Some, None, true, false, pos, nat_lt, not, ◌||◌, ◌&&◌, if◌then◌else◌, ◌⊎◌};
 ghost use Rattle.std.specs.List.{All};
-ghost use Rattle.board_base.specs.Places.{IsPlace};
+ghost use Rattle.board_base.specs.Places.{IsPlace, same_point};
 ghost use Rattle.plane_arcs.specs.declared.arcs.ArcError.TheVariants.{Memory};
-ghost use Rattle.plane_arcs.specs.Vectors.{IsArcPlace, IsUpTo, added, turned, same_vector, is_zero as is_zero_of, vector_length};
+ghost use Rattle.plane_arcs.specs.Vectors.{IsArcPlace, IsUpTo, added, turned, is_zero as is_zero_of, vector_length};
 ghost use Rattle.plane_arcs.specs.Arcs.{bisections as bisections_of, bisected, quarters, pieces, round_to, points_round, apart, is_open, is_inside, all_inside, chain_of, Stops};
 
 use crate::turned::point_at;
@@ -180,7 +180,7 @@ fn are_apart(start_radius: u64, end_radius: u64) -> bool
 
 // Whether one end of an arc is the centre and the other one isn't.
 fn is_lone(u: Point, v: Point) -> bool
-    ensures { result ≡ (is_zero_of u || is_zero_of v) && not (same_vector u v) }
+    ensures { result ≡ (is_zero_of u || is_zero_of v) && not (same_point u v) }
 {
     let central = is_zero(u) || is_zero(v);
     central && !is_same(u, v)

@@ -1,7 +1,8 @@
 //! Vectors from the centre of a circle, in whole nanometres. Each is a point as seen from the centre.
 ghost use Rattle.std.specs.Prelude.{◌≡◌, ◌≤◌, ◌<◌, ◌+◌, ◌*◌, ◌^◌, ◌*ℤ◌, ◌+ℤ◌, ◌-ℤ◌, pos, unsigned_abs, false};
 ghost use Rattle.fixed_num.specs.Rounding.{round_div_of, IsNearest};
-ghost use Rattle.plane_arcs.specs.Vectors.{IsFarCoordinate, IsArcPlace, IsUpTo, vector as vector_of, added as sum_of, same_vector, is_zero as is_zero_of, dot as dot_of, cross as cross_of, vector_length, scaled_to as scaled_of, brought_to as brought_of, between as between_of, quarter_on as quarter_of, ends_in as ends_of, last_quarter as last_of};
+ghost use Rattle.board_base.specs.Places.{same_point};
+ghost use Rattle.plane_arcs.specs.Vectors.{IsFarCoordinate, IsArcPlace, IsUpTo, vector as vector_of, added as sum_of, is_zero as is_zero_of, dot as dot_of, cross as cross_of, vector_length, scaled_to as scaled_of, brought_to as brought_of, between as between_of, quarter_on as quarter_of, ends_in as ends_of, last_quarter as last_of};
 
 use crate::sums::{minus, plus};
 use board_base::Point;
@@ -48,7 +49,7 @@ pub fn sum(a: Point, b: Point) -> Point
 
 /// Whether two vectors are the same.
 pub fn is_same(a: Point, b: Point) -> bool
-    ensures { result ≡ same_vector a b }
+    ensures { result ≡ same_point a b }
 {
     a.x == b.x && a.y == b.y
 }

@@ -13,13 +13,14 @@ use Rattle.shape_parts.specs.Cover.{is_dark}
 use Rattle.rs274_sim.specs.Cutter.{nanometre}
 use Rattle.mill_program.specs.declared.cuts.Program.{Program}
 use Rattle.mill_program.specs.Strokes.{Wanted}
-use Rattle.tiling.specs.Tiles.{no_shift, tiled}
+use Rattle.tiling.specs.Tiles.{tiled}
 use Rattle.tiling.specs.Copies.{Tile, first_tile, shift_in, cell_in, point_in, pos_in, tiled_in}
 use Rattle.tiling.specs.Laws.{wanted_in, OneTileLaw}
 use Rattle.mill_plan.specs.declared.cutting.Cutting.{Cutting}
 use Rattle.mill_plan.specs.Cutting.{side_cutting, IsVisited}
 use Rattle.mill_plan.specs.Mills.{IsWhollySwept}
 use Rattle.mill_plan.specs.Isolated.{PartsOthers}
+use Rattle.board_base.specs.Places.{origin}
 use Rattle.side_runs.specs.Sides.{IsDarkCopy, IsVisitedCopy, PartsTiles}
 use Rattle.side_runs.specs.SideStrokes.{wanted_walk}
 use Rattle.side_runs.specs.Alone.{alone, AloneLaw}
@@ -32,11 +33,11 @@ none_far p = omega (arith, ints)
 not_moved : (x : ℤ) → x +ℤ pos 0 ≡ x
 not_moved x = omega (arith, ints)
 
-no_shift_first : (p : ℤ) → shift_in p first_tile ≡ no_shift
-no_shift_first p = λ i. record { x = none_far p i; y = none_far p i }
+origin_first : (p : ℤ) → shift_in p first_tile ≡ origin
+origin_first p = λ i. record { x = none_far p i; y = none_far p i }
 
 first_point : (p : ℤ) (q : Point) → point_in (shift_in p first_tile) q ≡ q
-first_point p q = ap (λ (s : Point). point_in s q) (no_shift_first p) ∙ (λ i. record { x = not_moved q.x i; y = not_moved q.y i })
+first_point p q = ap (λ (s : Point). point_in s q) (origin_first p) ∙ (λ i. record { x = not_moved q.x i; y = not_moved q.y i })
 
 first_cell : (c : Cell) → cell_in first_tile c ≡ c
 first_cell c i = record { i = not_moved c.i i; j = not_moved c.j i }
@@ -95,10 +96,10 @@ parts_alone k depth number groups moves = (
 -- ---- the program as it stands
 
 program_alone : OneTileLaw → (pitch : ℤ) (p : Program) → tiled_in pitch alone p ≡ p
-program_alone law pitch p = ap (λ (s : Point). tiled (s ∷ []) p) (no_shift_first pitch) ∙ law p
+program_alone law pitch p = ap (λ (s : Point). tiled (s ∷ []) p) (origin_first pitch) ∙ law p
 
 place_alone : (p : ℤ) (q : Pos) → pos_in (shift_in p first_tile) q ≡ q
-place_alone p q = ap (λ (s : Point). pos_in s q) (no_shift_first p) ∙ (λ i. record { x = by q.x i; y = by q.y i; z = q.z })
+place_alone p q = ap (λ (s : Point). pos_in s q) (origin_first p) ∙ (λ i. record { x = by q.x i; y = by q.y i; z = q.z })
   where
     by : (x : ℤ) → x +ℤ pos 0 *ℤ nanometre ≡ x
     by x = omega (arith, ints)

@@ -8,14 +8,14 @@ use Rattle.std.proofs.lemmas.List.Elements.{All-nil, All-cons, All-head, All-tai
 use Rattle.std.proofs.lemmas.List.Folds.{find-append}
 use Rattle.number_laws.proofs.Ring.{var, mul, ring}
 use Rattle.board_base.specs.declared.places.Point.{Point}
-use Rattle.board_base.specs.Places.{IsCoordinate}
+use Rattle.board_base.specs.Places.{IsCoordinate, origin}
 use Rattle.mill_program.specs.declared.cuts.Corner.{Corner}
 use Rattle.mill_program.specs.declared.cuts.ToolRun.{ToolRun}
 use Rattle.mill_program.specs.declared.cuts.Program.{Program}
 use Rattle.mill_program.specs.Conditions.{IsCorner, IsCut, IsToolRun, IsProgram, IsStep, AreSteps, IsRunnableCut, IsRunnable}
 use Rattle.mill_program.specs.Moves.{place_of}
 use Rattle.mill_program.specs.Strokes.{wanted_cut, wanted}
-use Rattle.tiling.specs.Tiles.{no_shift, shift_of, shifts_of, corner_in, cut_in, cuts_in, run_in, tiled, is_past, corners_of, past_in, first_past, refused_or, tile_of, IsPlaced}
+use Rattle.tiling.specs.Tiles.{shift_of, shifts_of, corner_in, cut_in, cuts_in, run_in, tiled, is_past, corners_of, past_in, first_past, refused_or, tile_of, IsPlaced}
 use Rattle.tiling.specs.Copies.{Tile, tile_at, tiles_of, shift_in, pos_in}
 use Rattle.tiling.specs.Stretches.{TiledProgramLaw}
 use Rattle.tiling.specs.Laws.{OneTileLaw, ShiftsLaw, TileValueLaw, wanted_in, wanted_in_tiles, WantedLaw}
@@ -113,10 +113,10 @@ tiled_program shifts p h w none = (program_in shifts p h none, runnable_in shift
 
 -- ---- one tile
 
-pub run_in_one : (run : ToolRun) → run_in (no_shift ∷ []) run ≡ run
-run_in_one run t = record { tool = run.tool; speed = run.speed; feed = run.feed; plunge = run.plunge; cuts = (append-nil (cuts_in run.cuts no_shift) ∙ same_cuts run.cuts) t }
+pub run_in_one : (run : ToolRun) → run_in (origin ∷ []) run ≡ run
+run_in_one run t = record { tool = run.tool; speed = run.speed; feed = run.feed; plunge = run.plunge; cuts = (append-nil (cuts_in run.cuts origin) ∙ same_cuts run.cuts) t }
 
-runs_in_one : (runs : List ToolRun) → map (run_in (no_shift ∷ [])) runs ≡ runs
+runs_in_one : (runs : List ToolRun) → map (run_in (origin ∷ [])) runs ≡ runs
 runs_in_one [] = refl
 runs_in_one (run ∷ runs) = λ t. run_in_one run t ∷ runs_in_one runs t
 

@@ -10,7 +10,8 @@ use Rattle.mill_program.specs.Conditions.{IsProgram, IsRunnable}
 use Rattle.mill_program.specs.Lines.{lines_of}
 use Rattle.mill_program.specs.RunLaw.{RunLaw}
 use Rattle.mill_program.specs.Strokes.{CutsExactly, StrokeLaw, wanted}
-use Rattle.tiling.specs.Tiles.{no_shift, tiled}
+use Rattle.board_base.specs.Places.{origin}
+use Rattle.tiling.specs.Tiles.{tiled}
 use Rattle.tiling.specs.Copies.{move_in, back}
 use Rattle.tiling.specs.Stretches.{InTiles}
 use Rattle.tiling.specs.Alike.{CutAlike, CutsAlikeLaw, HaveLowOf, StretchLaw, TileStrokesLaw}
@@ -59,7 +60,7 @@ no_bite_alike height lower IsDark r plain moves h alike free q dark m there low 
 unmoved : (a : ℤ) → a +ℤ neg_ℤ (pos 0) *ℤ nanometre ≡ a
 unmoved a = omega (arith, ints)
 
-stays : (m : Move) → move_in (back no_shift) m ≡ m
+stays : (m : Move) → move_in (back origin) m ≡ m
 stays m t = record {
   from = record { x = unmoved (m.from).x t; y = unmoved (m.from).y t; z = (m.from).z };
   to = record { x = unmoved (m.to).x t; y = unmoved (m.to).y t; z = (m.to).z };
@@ -71,15 +72,15 @@ stays m t = record {
   line = m.line;
 }
 
-stay : (moves : List Move) → map (move_in (back no_shift)) moves ≡ moves
+stay : (moves : List Move) → map (move_in (back origin)) moves ≡ moves
 stay [] = refl
 stay (m ∷ moves) = λ t. stays m t ∷ stay moves t
 
 -- in one tile the moves do what they do
-pub in_one_tile : (P : List Move → Type 0) (moves : List Move) → P moves → InTiles (no_shift ∷ []) P moves
+pub in_one_tile : (P : List Move → Type 0) (moves : List Move) → P moves → InTiles (origin ∷ []) P moves
 in_one_tile P moves h = (moves ∷ [], sym (append-nil moves), (subst P (sym (stay moves)) h, tt))
 
-pub of_one_tile : (P : List Move → Type 0) (moves : List Move) → InTiles (no_shift ∷ []) P moves → P moves
+pub of_one_tile : (P : List Move → Type 0) (moves : List Move) → InTiles (origin ∷ []) P moves → P moves
 of_one_tile P moves ([], joined, each) = absurd each
 of_one_tile P moves (stretch ∷ [], joined, each) = subst P (stay stretch ∙ sym (append-nil stretch) ∙ sym joined) each.0
 of_one_tile P moves (stretch ∷ other ∷ others, joined, each) = absurd each.1

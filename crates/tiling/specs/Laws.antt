@@ -5,12 +5,13 @@ use Rattle.board_base.specs.declared.places.Point.{Point}
 use Rattle.mill_program.specs.declared.cuts.ToolRun.{ToolRun}
 use Rattle.mill_program.specs.declared.cuts.Program.{Program}
 use Rattle.mill_program.specs.Strokes.{Wanted, wanted_cut, wanted}
-use Rattle.tiling.specs.Tiles.{no_shift, shifts_of, tiled, tile_of, first_past}
+use Rattle.board_base.specs.Places.{origin}
+use Rattle.tiling.specs.Tiles.{shifts_of, tiled, tile_of, first_past}
 use Rattle.tiling.specs.Copies.{Tile, tiles_of, shift_in, pos_in}
 
 -- in one tile a program is as it stands
 abbrev pub OneTileLaw : Type 0
-OneTileLaw = (p : Program) → tiled (no_shift ∷ []) p ≡ p
+OneTileLaw = (p : Program) → tiled (origin ∷ []) p ≡ p
 
 -- the shifts of tiles that are counted in cells
 abbrev pub ShiftsLaw : Type 0
@@ -22,7 +23,7 @@ SomeShiftsLaw = (across up : ℕ) (step : Point) → 1 ≤ across → 1 ≤ up �
 
 -- the only tile stands where the board does
 abbrev pub OneShiftLaw : Type 0
-OneShiftLaw = (step : Point) → shifts_of 1 1 step ≡ no_shift ∷ []
+OneShiftLaw = (step : Point) → shifts_of 1 1 step ≡ origin ∷ []
 
 -- where the program in tiles is answered, no corner of it is past the range
 abbrev pub TileValueLaw : Type 0

@@ -1,7 +1,7 @@
 use Rattle.std.proofs.Common.{◌≡◌, take, map, pos}
 use Rattle.std.specs.List.{list_any}
+use Rattle.plane_arcs.specs.Turned.{is_far}
 use Rattle.gerber_image.specs.Image.{shifted_point}
-use Rattle.gerber_image.specs.Checks.{is_far}
 use Rattle.gerber_image.proofs.repeat.points_leave.Given as goal
 
 abbrev pub invariant-loop-p : goal.invariant-loop-p
