@@ -12,7 +12,7 @@ use Rattle.shape_parts.specs.declared.shape.Part.TheVariants.{Disc, Capsule, Are
 use Rattle.shape_parts.specs.declared.shape.Piece.{Piece}
 use Rattle.apertures.specs.declared.aperture.ApertureError.{ApertureError}
 use Rattle.apertures.specs.declared.aperture.ApertureError.TheVariants.{Syntax, Unsupported, Macro}
-use Rattle.apertures.specs.declared.aperture.Unit.{Unit}
+use Rattle.fixed_num.specs.declared.units.Unit.{Unit}
 use Rattle.apertures.specs.declared.macros.NamedMacro.{NamedMacro}
 use Rattle.apertures.specs.declared.texts.Template.{Template}
 use Rattle.apertures.specs.declared.texts.Template.TheVariants.{Circle, Obround, Rectangle, Polygon}

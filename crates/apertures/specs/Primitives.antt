@@ -15,8 +15,8 @@ use Rattle.macro_eval.specs.Values.{IsValue}
 use Rattle.macro_eval.specs.Fields.{field}
 use Rattle.apertures.specs.declared.aperture.ApertureError.{ApertureError}
 use Rattle.apertures.specs.declared.aperture.ApertureError.TheVariants.{OutOfRange}
-use Rattle.apertures.specs.declared.aperture.Unit.{Unit}
-use Rattle.apertures.specs.declared.aperture.Unit.TheVariants.{Mm, Inch}
+use Rattle.fixed_num.specs.declared.units.Unit.{Unit}
+use Rattle.fixed_num.specs.declared.units.Unit.TheVariants.{Mm, Inch}
 use Rattle.apertures.specs.Outlines.{at, corners, vertices}
 use Rattle.apertures.specs.Texts.{not_below, width_of, count_of, turn_of}
 

@@ -8,8 +8,8 @@ use Rattle.fixed_num.specs.Values.{cut_at}
 use Rattle.fixed_num.specs.declared.number.NumError.{NumError}
 use Rattle.apertures.specs.declared.aperture.ApertureError.{ApertureError}
 use Rattle.apertures.specs.declared.aperture.ApertureError.TheVariants.{Syntax, OutOfRange}
-use Rattle.apertures.specs.declared.aperture.Unit.{Unit}
-use Rattle.apertures.specs.declared.aperture.Unit.TheVariants.{Mm, Inch}
+use Rattle.fixed_num.specs.declared.units.Unit.{Unit}
+use Rattle.fixed_num.specs.declared.units.Unit.TheVariants.{Mm, Inch}
 use Rattle.apertures.specs.declared.texts.Template.{Template}
 use Rattle.apertures.specs.declared.texts.Template.TheVariants.{Circle, Obround, Rectangle, Polygon}
 

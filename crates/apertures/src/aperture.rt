@@ -9,15 +9,6 @@ use std::alloc::AllocError;
 use std::marker::Model;
 use thiserror::Error;
 
-/// The unit of a file's lengths.
-#[derive(Clone, Copy, Debug, PartialEq, Eq)]
-pub enum Unit {
-    /// Millimetres.
-    Mm,
-    /// Inches.
-    Inch,
-}
-
 /// Why there is no aperture, or no shape of it at a place.
 #[derive(Clone, Copy, Debug, PartialEq, Eq, Error)]
 pub enum ApertureError {

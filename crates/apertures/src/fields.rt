@@ -8,10 +8,10 @@ ghost use Rattle.macro_eval.specs.Fields.{field as field_of};
 ghost use Rattle.apertures.specs.Texts.{turn_of as turn_of_value};
 ghost use Rattle.apertures.specs.Primitives.{length_at as length_at_of, point_in as point_in_of, size_in as size_in_of, count_in as count_in_of, is_on as is_on_of};
 
-use crate::aperture::{ApertureError, Unit};
+use crate::aperture::ApertureError;
 use crate::texts::{count_of, size_of, turn_of, width_of};
 use board_base::Point;
-use fixed_num::round_div;
+use fixed_num::{Unit, round_div};
 
 // The value of a field, 0 where it is missing.
 pub(crate) fn field(values: &[i128], k: usize) -> i128

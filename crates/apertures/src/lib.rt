@@ -19,7 +19,8 @@ mod templates;
 mod texts;
 mod turns;
 
-pub use aperture::{Aperture, ApertureError, Unit, stroke};
+pub use aperture::{Aperture, ApertureError, stroke};
+pub use fixed_num::Unit;
 pub use macros::{Macros, NamedMacro};
 pub use place::{Mirror, shape_at};
 pub use templates::define;

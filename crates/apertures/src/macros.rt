@@ -5,10 +5,11 @@ ghost use Rattle.std.specs.Str.{bytes_eq};
 ghost use Rattle.apertures.specs.declared.aperture.ApertureError.TheVariants.{Memory};
 ghost use Rattle.apertures.specs.Defined.{macro_figure, macro_named as macro_named_of, by_macro as by_macro_of};
 
-use crate::aperture::{Aperture, ApertureError, Unit};
+use crate::aperture::{Aperture, ApertureError};
 use crate::primitives::all_pieces;
 use crate::texts::{arguments_of, name_of};
 use board_base::Items;
+use fixed_num::Unit;
 use macro_eval::{Macro, MacroFault, evaluate};
 use shape_parts::Shape;
 use std::alloc::Global;

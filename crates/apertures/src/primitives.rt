@@ -9,13 +9,14 @@ ghost use Rattle.apertures.specs.declared.aperture.ApertureError.TheVariants.{Me
 ghost use Rattle.apertures.specs.Figures.{IsBounded, IsBoundedPiece};
 ghost use Rattle.apertures.specs.Primitives.{HasValues, circle_part, outline_points as outline_points_of, outline_part, polygon_part, box_part, line_part, piece, cross_bars as cross_bars_of, thermal_pieces, one_piece, line_pieces, piece_of_some, pieces_of as pieces_of_primitive, all_pieces as all_pieces_of};
 
-use crate::aperture::{ApertureError, Unit};
+use crate::aperture::ApertureError;
 use crate::fields::{count_in, is_on, point_in, size_in, turn_in};
 use crate::lines::turned_line;
 use crate::outlines::vertices;
 use crate::texts::add;
 use crate::turns::{points_about, turned_area, turned_box, turned_disc, turned_point};
 use board_base::Point;
+use fixed_num::Unit;
 use macro_eval::Primitive;
 use shape_parts::{Part, Piece};
 use std::alloc::{AllocError, Global};

@@ -7,12 +7,13 @@ ghost use Rattle.apertures.specs.Figures.{Figure, IsBounded};
 ghost use Rattle.apertures.specs.Texts.{IsSize, IsValue};
 ghost use Rattle.apertures.specs.Defined.{solid as solid_of, hole as hole_of, circle_of, obround_of, rectangle_of, pierced_polygon as pierced_polygon_of, polygon_at as polygon_at_of, polygon_of, figure_of, defined};
 
-use crate::aperture::{Aperture, ApertureError, Unit};
+use crate::aperture::{Aperture, ApertureError};
 use crate::macros::{Macros, by_macro};
 use crate::parts::{capsule, disc, polygon as polygon_part, rectangle as rectangle_part};
 use crate::texts::{
     Template, count_of, size_of, sizes_of, template_of, turn_of, values_behind, width_of,
 };
+use fixed_num::Unit;
 use shape_parts::{Part, Shape};
 use std::alloc::{AllocError, Global};
 

@@ -5,8 +5,8 @@ ghost use Rattle.shape_parts.specs.Parts.{IsWidth};
 ghost use Rattle.apertures.specs.declared.aperture.ApertureError.TheVariants.{Memory};
 ghost use Rattle.apertures.specs.Texts.{is_comma, is_times, IsSize, IsValue, named as named_of, name_in, template_of as template_in, value_of as value_in, values_in as values_between, values_behind as values_of_text, arguments_of as arguments_of_text, not_below, sizes_of as sizes_among, count_of as count_in, turn_of as turn_in, length_of as length_of_size, width_of as width_of_size};
 
-use crate::aperture::{ApertureError, Unit};
-use fixed_num::{cut_decimal, round_div};
+use crate::aperture::ApertureError;
+use fixed_num::{Unit, cut_decimal, round_div};
 use std::alloc::{AllocError, Global};
 
 // The templates that are built.

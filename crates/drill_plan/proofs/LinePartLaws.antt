@@ -10,8 +10,8 @@ use Rattle.std.proofs.lemmas.Str.Parse.{tells_digits, numerals_by_value, digits_
 use Rattle.number_laws.proofs.Tests.{first_of, second_of, is_up_to}
 use Rattle.board_base.specs.OptionBinds.{◌>>=◌}
 use Rattle.text_cut.specs.Split.{after}
-use Rattle.excellon.specs.declared.line.Unit.{Unit}
-use Rattle.excellon.specs.declared.line.Unit.TheVariants as units
+use Rattle.fixed_num.specs.declared.units.Unit.{Unit}
+use Rattle.fixed_num.specs.declared.units.Unit.TheVariants as units
 use Rattle.excellon.specs.declared.line.Pair.{Pair}
 use Rattle.excellon.specs.declared.line.Word.{Word}
 use Rattle.excellon.specs.declared.line.Word.TheVariants as words

@@ -21,7 +21,7 @@ use Rattle.excellon.specs.declared.file.DrillKind.{DrillKind}
 use Rattle.excellon.specs.declared.line.Act.{Act}
 use Rattle.excellon.specs.declared.line.Act.TheVariants as acts
 use Rattle.excellon.specs.declared.line.Format.{Format}
-use Rattle.excellon.specs.declared.line.Unit.{Unit}
+use Rattle.fixed_num.specs.declared.units.Unit.{Unit}
 use Rattle.excellon.specs.declared.line.Way.{Way}
 use Rattle.excellon.specs.declared.line.Said.{Said}
 use Rattle.excellon.specs.declared.line.Said.TheVariants as says

@@ -6,7 +6,7 @@ use Rattle.text_cut.specs.Split.{after}
 use Rattle.excellon.specs.Numerals.{tool_number, number_before, coordinate_in}
 use Rattle.excellon.specs.Words.{word_in, is_blank, is_left_out, start_words}
 use Rattle.excellon.specs.Header.{format_of, header_of}
-use Rattle.excellon.specs.declared.line.Unit.TheVariants as units
+use Rattle.fixed_num.specs.declared.units.Unit.TheVariants as units
 use Rattle.excellon.specs.declared.line.Part.{Part}
 use Rattle.excellon.specs.declared.line.Part.TheVariants as parts
 use Rattle.excellon.specs.declared.line.Coordinate.{Coordinate}

@@ -7,8 +7,8 @@ use Rattle.text_cut.specs.Split.{after, halves}
 use Rattle.fixed_num.specs.Values.{is_zero}
 use Rattle.excellon.specs.Numerals.{tool_number, is_number_byte, number_before, decimal_in}
 use Rattle.excellon.specs.Words.{word_in, is_left_out}
-use Rattle.excellon.specs.declared.line.Unit.{Unit}
-use Rattle.excellon.specs.declared.line.Unit.TheVariants as units
+use Rattle.fixed_num.specs.declared.units.Unit.{Unit}
+use Rattle.fixed_num.specs.declared.units.Unit.TheVariants as units
 use Rattle.excellon.specs.declared.line.Format.{Format}
 use Rattle.excellon.specs.declared.line.Said.{Said}
 use Rattle.excellon.specs.declared.line.Said.TheVariants as says

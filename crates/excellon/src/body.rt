@@ -6,9 +6,10 @@ ghost use Rattle.excellon.specs.Words.{word_in};
 ghost use Rattle.excellon.specs.Body.{body_words, field as field_of, some_of as some_of_pair, pair_of, alone as alone_of, whole_pair as whole_pair_of, move_of, cut_of, behind_pair as behind_pair_of, coordinates_of, selection_of, other_body, body_of, comment_of, line_of, filled_of, said_of};
 
 use crate::header::{format, header};
-use crate::line::{Coordinate, Pair, Part, Said, Unit, Way, Word};
+use crate::line::{Coordinate, Pair, Part, Said, Way, Word};
 use crate::numerals::{coordinate, number_before, tool_number};
 use crate::words::{is, is_blank, is_left_out, start};
+use fixed_num::Unit;
 use text_cut::after;
 
 // A unit alone.

@@ -9,9 +9,10 @@ ghost use Rattle.text_cut.specs.Split.{after as after_in};
 ghost use Rattle.excellon.specs.Words.{word_in};
 ghost use Rattle.excellon.specs.Header.{header_words, is_count as is_count_of, counts_of, format_of, zeros_in, picture_of, fills_of, behind_comma as behind_comma_of, with_unit as with_unit_of, metric_of, inch_of, letters_of, one_size as one_size_of, with_letter as with_letter_of, size_in, definition_of, other_header, header_of};
 
-use crate::line::{Format, Said, Unit};
+use crate::line::{Format, Said};
 use crate::numerals::{decimal, is_number_byte, number_before, tool_number};
 use crate::words::{is, is_left_out};
+use fixed_num::Unit;
 use text_cut::{after, split_once};
 
 // A word without effect.

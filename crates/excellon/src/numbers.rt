@@ -3,48 +3,13 @@ ghost use Rattle.std.specs.Prelude.{◌≡◌, ◌<◌, ◌≤◌, ◌^◌, pos,
 ghost use Rattle.board_base.specs.Places.{IsPlace};
 ghost use Rattle.plane_arcs.specs.Turned.{is_far};
 ghost use Rattle.excellon.specs.Fits.{IsFormat, IsWritten};
-ghost use Rattle.excellon.specs.Numbers.{unit_size as unit_size_of, length_of, nanometres as nanometres_of, filled as filled_of, coordinate_of, format_in};
+ghost use Rattle.excellon.specs.Numbers.{length_of, filled as filled_of, coordinate_of, format_in};
 ghost use Rattle.excellon.specs.InForce.{said_coordinate};
 
-use crate::line::{Coordinate, Format, Unit};
+use crate::line::{Coordinate, Format};
 use board_base::Point;
-use fixed_num::round_div;
+use fixed_num::{Unit, nanometres, power_of_ten, round_div};
 use plane_arcs::point_at;
-
-// The nanometres of a unit.
-fn unit_size(unit: Unit) -> i128
-    ensures value { result ≡ pos (unit_size_of unit) }
-    ensures bound { unit_size_of unit ≤ 25400000 }
-{
-    match unit {
-        Unit::Mm => 1_000_000,
-        Unit::Inch => 25_400_000,
-    }
-}
-
-// A power of ten.
-fn power(n: u32) -> i128
-    requires { n ≤ 12 }
-    ensures value { result ≡ pos (10 ^ n) }
-    ensures positive { 0 < 10 ^ n }
-    ensures bound { 10 ^ n ≤ 1000000000000 }
-{
-    match n {
-        0 => 1,
-        1 => 10,
-        2 => 100,
-        3 => 1_000,
-        4 => 10_000,
-        5 => 100_000,
-        6 => 1_000_000,
-        7 => 10_000_000,
-        8 => 100_000_000,
-        9 => 1_000_000_000,
-        10 => 10_000_000_000,
-        11 => 100_000_000_000,
-        _ => 1_000_000_000_000,
-    }
-}
 
 /// A number in 10^-9 of a unit, to the nearest nanometre.
 #[tactic(auto, unfolding(crate::specs::Numbers::length_of))]
@@ -59,16 +24,6 @@ pub fn length(unit: Unit, value: i128) -> i128
     }
 }
 
-// A number with this many decimals of the unit, to the nearest nanometre.
-#[tactic(auto, unfolding(crate::specs::Numbers::nanometres))]
-fn nanometres(decimals: u32, unit: Unit, value: i128) -> i128
-    requires decimals { decimals ≤ 6 }
-    requires value { unsigned_abs value < 10 ^ 30 }
-    ensures { result ≡ nanometres_of decimals unit value }
-{
-    round_div(value * unit_size(unit), power(decimals))
-}
-
 // The number of digits, with zeros on the right where they are filled so.
 #[tactic(auto, unfolding(crate::specs::Numbers::filled))]
 fn filled(format: Format, fills: bool, count: usize, value: i64) -> i128
@@ -81,7 +36,7 @@ fn filled(format: Format, fills: bool, count: usize, value: i64) -> i128
         return value as i128;
     }
     let digits = (format.whole + format.decimals) as usize;
-    value as i128 * power(digits.saturating_sub(count) as u32)
+    value as i128 * power_of_ten(digits.saturating_sub(count) as u32)
 }
 
 // A coordinate.

@@ -5,6 +5,7 @@ pub mod Spelled
 pub mod Shown
 pub mod Values
 pub mod Rounding
+pub mod Units
 pub mod Angles
 pub mod Turns
 pub mod Sizes

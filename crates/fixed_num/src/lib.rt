@@ -1,6 +1,6 @@
-//! Numbers as files write them: decimals of any scale, and millionths with six decimals; and the roots, rounded
-//! quotients and sines that stand for real ones. Whole numbers alone, with no floating point. Readers and writers
-//! of every format stand on it, so a format's own rules don't belong here.
+//! Numbers as files write them: decimals of any scale, lengths in a unit, and millionths with six decimals; and the
+//! roots, rounded quotients and sines that stand for real ones. Whole numbers alone, with no floating point. Readers
+//! and writers of every format stand on it, so a format's own rules don't belong here.
 #![tactic(auto)]
 
 ghost use Rattle.fixed_num.specs.Sizes.{SizeLaw};
@@ -13,12 +13,14 @@ mod decimal;
 mod fixed;
 mod number;
 mod rounding;
+mod units;
 
 pub use angles::{cosine, sine};
 pub use decimal::{DecimalText, SignMark, split_decimal};
 pub use fixed::write_fixed6;
 pub use number::{NumError, cut_decimal, read_decimal};
 pub use rounding::{isqrt, round_div};
+pub use units::{Unit, nanometres, power_of_ten};
 
 /// Bytes spell the decimals whose text they are, and no others.
 pub fn decimal_law()

@@ -7,14 +7,14 @@ use Rattle.board_base.specs.Places.{IsPlace}
 use Rattle.fixed_num.specs.Rounding.{rounded, round_div_of}
 use Rattle.plane_arcs.proofs.RangeLaws.{inside_place}
 use Rattle.plane_arcs.specs.Turned.{in_range, point_at, is_far}
-use Rattle.apertures.specs.declared.aperture.Unit.{Unit}
-use Rattle.apertures.specs.declared.aperture.Unit.TheVariants.{Mm, Inch}
+use Rattle.fixed_num.specs.declared.units.Unit.{Unit}
+use Rattle.fixed_num.specs.declared.units.Unit.TheVariants.{Mm, Inch}
 use Rattle.apertures.specs.Texts.{length_of, IsSize}
 use Rattle.gerber_image.specs.InForce.{step_length}
 use Rattle.apertures.specs.Defined.{at}
 use Rattle.gerber_image.specs.Checks.{is_long}
 use Rattle.gerber_words.specs.Fits.{IsWritten}
-use Rattle.gerber_image.specs.Numbers.{unit_size, nanometres}
+use Rattle.fixed_num.specs.Units.{unit_size, nanometres}
 use Rattle.gerber_words.specs.declared.commands.AxisFormat.{AxisFormat}
 use Rattle.gerber_words.specs.declared.commands.Digits.{Digits}
 use Rattle.gerber_words.proofs.NumeralLaws.{some_digits}

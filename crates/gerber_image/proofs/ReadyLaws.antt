@@ -3,7 +3,7 @@ use Rattle.std.proofs.Common.{◌≡◌, ℕ, ◌≤◌, ◌*◌, List, Bool, tr
 use Rattle.std.specs.Prelude.{◌==◌, if◌then◌else◌}
 use Rattle.std.specs.Option.{option_or}
 use Rattle.board_base.specs.Places.{IsPlace}
-use Rattle.apertures.specs.declared.aperture.Unit.{Unit}
+use Rattle.fixed_num.specs.declared.units.Unit.{Unit}
 use Rattle.apertures.specs.declared.place.Mirror.{Mirror}
 use Rattle.gerber_image.specs.InForce.{step_length, opened}
 use Rattle.apertures.specs.Defined.{at}

@@ -15,8 +15,8 @@ use Rattle.macro_eval.specs.declared.fault.MacroFault.{MacroFault}
 use Rattle.macro_eval.specs.declared.fault.MacroFault.TheVariants as faults
 use Rattle.apertures.specs.declared.aperture.ApertureError.{ApertureError}
 use Rattle.apertures.specs.declared.aperture.ApertureError.TheVariants as errors
-use Rattle.apertures.specs.declared.aperture.Unit.{Unit}
-use Rattle.apertures.specs.declared.aperture.Unit.TheVariants as units
+use Rattle.fixed_num.specs.declared.units.Unit.{Unit}
+use Rattle.fixed_num.specs.declared.units.Unit.TheVariants as units
 use Rattle.apertures.specs.Figures.{Figure}
 use Rattle.apertures.specs.Placed.{placed}
 use Rattle.plane_arcs.specs.Turned.{is_far}

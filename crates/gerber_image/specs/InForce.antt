@@ -7,14 +7,14 @@ use Rattle.macro_eval.specs.Body.{macro_of}
 use Rattle.macro_eval.specs.declared.fault.MacroFault.{MacroFault}
 use Rattle.apertures.specs.declared.macros.NamedMacro.{NamedMacro}
 use Rattle.apertures.specs.declared.aperture.ApertureError.{ApertureError}
-use Rattle.apertures.specs.declared.aperture.Unit.{Unit}
-use Rattle.apertures.specs.declared.aperture.Unit.TheVariants as units
+use Rattle.fixed_num.specs.declared.units.Unit.{Unit}
+use Rattle.fixed_num.specs.declared.units.Unit.TheVariants as units
 use Rattle.apertures.specs.declared.place.Mirror.{Mirror}
 use Rattle.apertures.specs.declared.place.Mirror.TheVariants as mirrors
 use Rattle.apertures.specs.Figures.{Figure}
 use Rattle.apertures.specs.Defined.{defined}
 use Rattle.apertures.specs.Texts.{length_of}
-use Rattle.gerber_image.specs.Numbers.{nanometres}
+use Rattle.fixed_num.specs.Units.{nanometres}
 use Rattle.gerber_words.specs.declared.commands.AxisFormat.{AxisFormat}
 use Rattle.gerber_words.specs.declared.commands.Format.{Format}
 use Rattle.gerber_words.specs.declared.commands.Digits.{Digits}

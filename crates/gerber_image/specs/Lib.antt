@@ -1,4 +1,3 @@
-pub mod Numbers
 pub mod InForce
 pub mod Routes
 pub mod Regions

@@ -8,7 +8,7 @@ use Rattle.shape_parts.specs.declared.shape.Part.TheVariants.{Capsule}
 use Rattle.shape_parts.specs.declared.shape.Piece.{Piece}
 use Rattle.apertures.specs.Defined.{at, solid}
 use Rattle.gerber_image.specs.InForce.{InForce, x_format, y_format, coordinate_of}
-use Rattle.apertures.specs.declared.aperture.Unit.{Unit}
+use Rattle.fixed_num.specs.declared.units.Unit.{Unit}
 use Rattle.gerber_words.specs.declared.commands.AxisFormat.{AxisFormat}
 use Rattle.gerber_words.specs.declared.commands.Digits.{Digits}
 use Rattle.gerber_words.specs.declared.commands.Interpolation.{Interpolation}

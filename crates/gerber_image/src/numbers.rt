@@ -3,54 +3,17 @@ ghost use Rattle.std.specs.Prelude.{◌≡◌, ◌<◌, ◌≤◌, ◌^◌, ◌*
 ghost use Rattle.apertures.specs.Texts.{IsSize};
 ghost use Rattle.board_base.specs.Places.{IsPlace};
 ghost use Rattle.apertures.specs.Defined.{at};
+ghost use Rattle.fixed_num.specs.Units.{nanometres as nanometres_of};
 ghost use Rattle.plane_arcs.specs.Turned.{is_far as is_far_of};
 ghost use Rattle.gerber_image.specs.Checks.{is_long};
 ghost use Rattle.gerber_words.specs.Fits.{IsAxisFormat, IsFormat, IsWritten};
-ghost use Rattle.gerber_image.specs.Numbers.{unit_size as unit_size_of, nanometres as nanometres_of};
 ghost use Rattle.gerber_image.specs.InForce.{x_format as x_format_of, y_format as y_format_of, coordinate_of, step_length as step_length_of};
 
 use apertures::{Unit, length_of};
 use board_base::Point;
-use fixed_num::round_div;
+use fixed_num::nanometres;
 use gerber_words::{AxisFormat, Digits, Format};
 use plane_arcs::point_at;
-
-// The nanometres of a unit.
-fn unit_size(unit: Unit) -> i128
-    ensures value { result ≡ pos (unit_size_of unit) }
-    ensures bound { unit_size_of unit ≤ 25400000 }
-{
-    match unit {
-        Unit::Mm => 1_000_000,
-        Unit::Inch => 25_400_000,
-    }
-}
-
-// A power of ten.
-fn power(decimals: u32) -> i128
-    requires { decimals ≤ 6 }
-    ensures value { result ≡ pos (10 ^ decimals) }
-    ensures positive { 0 < 10 ^ decimals }
-{
-    match decimals {
-        0 => 1,
-        1 => 10,
-        2 => 100,
-        3 => 1_000,
-        4 => 10_000,
-        5 => 100_000,
-        _ => 1_000_000,
-    }
-}
-
-// A number with this many decimals of the unit, in nanometres.
-#[tactic(auto, unfolding(crate::specs::Numbers::nanometres))]
-fn nanometres(decimals: u32, unit: Unit, value: i64) -> i128
-    requires { decimals ≤ 6 }
-    ensures { result ≡ nanometres_of decimals unit value }
-{
-    round_div(value as i128 * unit_size(unit), power(decimals))
-}
 
 /// The digits of X and I by a format.
 pub fn x_format(format: Option<Format>) -> Option<AxisFormat>
@@ -83,7 +46,7 @@ fn written(format: AxisFormat, unit: Unit, digits: Digits) -> i128
     ensures value { result ≡ nanometres_of format.decimal_digits unit digits.value }
     ensures size { IsWritten digits → is_long (Some format) (Some digits) ≡ false → unsigned_abs result ≤ 25400000000000 }
 {
-    nanometres(format.decimal_digits, unit, digits.value)
+    nanometres(format.decimal_digits, unit, digits.value as i128)
 }
 
 /// Where digits lead by the format of their axis and the unit, in nanometres; without one of them it is `last`. Digits that the format

@@ -10,7 +10,7 @@ use Rattle.fixed_num.specs.Angles.{in_turn}
 use Rattle.fixed_num.specs.Values.{read_at, cut_at}
 use Rattle.fixed_num.specs.declared.number.NumError.{NumError}
 use Rattle.fixed_num.specs.declared.number.NumError.TheVariants.{TooFine}
-use Rattle.apertures.specs.declared.aperture.Unit.TheVariants as units
+use Rattle.fixed_num.specs.declared.units.Unit.TheVariants as units
 use Rattle.apertures.specs.declared.place.Mirror.TheVariants as mirrors
 use Rattle.text_cut.specs.Split.{after}
 use Rattle.gerber_words.specs.declared.commands.Command.{Command}

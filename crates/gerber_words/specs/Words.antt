@@ -4,7 +4,7 @@ use Rattle.std.specs.Char.{is_ascii_digit}
 use Rattle.std.specs.Option.{option_or}
 use Rattle.std.specs.Str.{bytes_eq}
 use Rattle.board_base.specs.OptionBinds.{◌>>=◌}
-use Rattle.apertures.specs.declared.aperture.Unit.TheVariants as units
+use Rattle.fixed_num.specs.declared.units.Unit.TheVariants as units
 use Rattle.text_cut.specs.Split.{after}
 use Rattle.fixed_num.specs.Numerals.{is_numeral}
 use Rattle.gerber_words.specs.Numerals.{number_of, digits_of, signed_before}

@@ -3,7 +3,7 @@ use Rattle.std.proofs.Common.{◌≡◌, ℕ, false, List, [], ◌∷◌, ◌++�
 use Rattle.std.proofs.lemmas.List.{append-nil}
 use Rattle.std.specs.Prelude.{is_none, if◌then◌else◌, unwrap_or}
 use Rattle.std.specs.Option.{option_or}
-use Rattle.apertures.specs.declared.aperture.Unit.{Unit}
+use Rattle.fixed_num.specs.declared.units.Unit.{Unit}
 use Rattle.gerber_image.specs.InForce.{in_force, repeat_at, unit_at, sets_repeat, last_set}
 use Rattle.gerber_image.specs.Image.{object_of, block_at, painted_by, copies, copies_of}
 use Rattle.gerber_image.specs.declared.repeat.Repeat.{Repeat}

@@ -24,7 +24,7 @@ use Rattle.excellon.specs.declared.file.DrillFile.{DrillFile}
 use Rattle.excellon.specs.declared.file.DrillKind.{DrillKind}
 use Rattle.excellon.specs.declared.line.Act.{Act}
 use Rattle.excellon.specs.declared.line.Act.TheVariants as acts
-use Rattle.excellon.specs.declared.line.Unit.{Unit as LengthUnit}
+use Rattle.fixed_num.specs.declared.units.Unit.{Unit as LengthUnit}
 use Rattle.excellon.specs.declared.line.Said.{Said}
 use Rattle.excellon.specs.declared.line.Said.TheVariants as says
 use Rattle.excellon.proofs.ReachedLaws.{after_held}

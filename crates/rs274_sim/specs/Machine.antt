@@ -1,5 +1,4 @@
--- What the machine does at a line (NISTIR 6556, section 3). Positions are in 10^-12 mm, speeds in turns per minute, feeds in thousandths of a
--- millimetre per minute.
+-- What the machine does at a line (NISTIR 6556, section 3): positions in 10^-12 mm, speeds in turns a minute, feeds in 10^-3 mm a minute.
 use Rattle.std.specs.Prelude.{ℕ, ◌+◌, ◌*◌, ◌/◌, ℤ, pos, neg_ℤ, ◌*ℤ◌, unsigned_abs, length, slice_get, Bool, true, false, ◌&&◌, ◌||◌, not, List, [], ◌∷◌, Option, Some, None, unwrap_or, is_some, is_none, Result, Ok, Err, ◌==◌, nat_lt, if◌then◌else◌, int_le, int_lt}
 use Rattle.std.specs.List.{list_all, list_any, find, count_by}
 use Rattle.std.specs.Option.{option_map}

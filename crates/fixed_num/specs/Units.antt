@@ -1,8 +1,8 @@
--- Coordinates in nanometres.
+-- The units of files in nanometres.
 use Rattle.std.specs.Prelude.{ℕ, ◌^◌, ℤ, pos, ◌*ℤ◌}
 use Rattle.fixed_num.specs.Rounding.{round_div_of}
-use Rattle.apertures.specs.declared.aperture.Unit.{Unit}
-use Rattle.apertures.specs.declared.aperture.Unit.TheVariants.{Mm, Inch}
+use Rattle.fixed_num.specs.declared.units.Unit.{Unit}
+use Rattle.fixed_num.specs.declared.units.Unit.TheVariants.{Mm, Inch}
 
 -- the nanometres of a unit
 abbrev pub unit_size : Unit → ℕ
