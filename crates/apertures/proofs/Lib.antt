@@ -3,3 +3,4 @@ pub mod OutlineLaws
 pub mod SpelledLaws
 pub mod OriginLaws
 pub mod MacroLaws
+pub mod IndexLaws

@@ -1,9 +1,8 @@
 -- The shape of an aperture at the origin.
-use Rattle.std.proofs.Common.{◌≡◌, refl, ℕ, suc, ◌≤◌, ℤ, pos, ◌+ℤ◌, List, [], ◌∷◌, Option, Some, None, Bool, true, arith, ap, ◌∙◌}
-use Rattle.std.specs.Prelude.{unsigned_abs, nat_le, cond, ◌&&◌}
+use Rattle.std.proofs.Common.{◌≡◌, refl, suc, ℤ, pos, ◌+ℤ◌, List, [], ◌∷◌, Option, Some, None, arith, ap, ◌∙◌}
+use Rattle.std.specs.Prelude.{◌&&◌}
 use Rattle.std.specs.List.{All}
 use borrow.Author.Differences.{ints}
-use Rattle.std.proofs.lemmas.Grind.{common_steps}
 use Rattle.board_base.specs.OptionBinds.{◌>>=◌}
 use Rattle.board_base.specs.Places.{IsCoordinate, IsPlace}
 use Rattle.number_laws.proofs.Tests.{both, cond_true}

@@ -3,6 +3,7 @@ pub mod Outlines
 pub mod Primitives
 pub mod Figures
 pub mod Defined
+pub mod Index
 pub mod Placed
 pub mod Spelled
 pub mod Origin
