@@ -13,7 +13,7 @@ fn numbers_text(alloc: Global, group: &Group) -> Result<String, AllocError>
 {
     let mut text = String::new(alloc);
     for k in 0..group.len() {
-        let n = group.at(k);
+        let n = *group.at(k);
         let number = format!(in alloc; " {n}")?;
         text.push_str(&number)?;
     }

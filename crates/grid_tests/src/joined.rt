@@ -57,7 +57,7 @@ fn listed(alloc: Global, bench: &mut Workbench) -> Result<Vec<u16>, AllocError> 
     let mut list = Vec::new(alloc);
     for group in &found {
         for k in 0..group.len() {
-            list.push(group.at(k))?;
+            list.push(*group.at(k))?;
         }
         list.push(0)?;
     }

@@ -64,7 +64,7 @@ fn add_numbers(bytes: &mut Vec<u8>, group: &Group) -> Result<(), AllocError>
     for k in 0..group.len() {
         let mut buffer = Buffer::new();
         bytes.push(b' ')?;
-        bytes.extend_from_slice(buffer.format(group.at(k)).as_bytes())?;
+        bytes.extend_from_slice(buffer.format(*group.at(k)).as_bytes())?;
     }
     Ok(())
 }

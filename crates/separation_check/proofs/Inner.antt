@@ -1,16 +1,13 @@
 -- Chains that begin in a frame whose border has no free cell stay in it.
-use Rattle.std.proofs.Common.{◌≡◌, ◌≢◌, ◌⊎◌, inl, inr, ℕ, zero, suc, ◌+◌, ◌<◌, ℤ, pos, ◌-ℤ◌, ◌≤ℤ◌, unsigned_abs, Bool, true, false, List, [], get_or, sym, ap, ◌∙◌, arith}
-use Rattle.std.proofs.lemmas.Bool.{false≢true, cases_eq}
-use borrow.Author.Differences.{ints}
+use Rattle.std.proofs.Common.{◌≡◌, ℕ, zero, suc, ◌<◌, Bool, true, false, List, [], get_or, sym, ap, ◌∙◌, arith}
+use Rattle.std.proofs.lemmas.Bool.{false≢true}
 use Rattle.number_laws.proofs.Tests.{by_bool}
 use Rattle.board_base.specs.declared.places.Cell.{Cell}
-use Rattle.board_base.specs.Lattice.{IsBeside}
 use Rattle.cell_grid.specs.declared.frames.Frame.{Frame}
-use Rattle.cell_grid.specs.Place.{InFrame, IsBetween, column_of, row_of}
-use Rattle.cell_grid.specs.Cells.{in_frame, IsOnBorder}
+use Rattle.cell_grid.specs.Cells.{in_frame}
 use Rattle.cell_sets.specs.Chains.{Chain, IsLinked}
 use Rattle.cell_sets.specs.Groups.{IsGroup, AreGroups}
-use Rattle.cell_grid.proofs.CellsLaws.{in_frame_is, in_frame_true, border_of}
+use Rattle.cell_grid.proofs.CellsLaws.{in_frame_is, border_of}
 use Rattle.separation_check.specs.Laws.{AgreeInside, InnerChains, InnerGroups}
 use Rattle.cell_sets.proofs.Links.{chain_end}
 

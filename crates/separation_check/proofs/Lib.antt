@@ -2,6 +2,7 @@ pub mod Sweeping
 pub mod Pairs
 pub mod Inner
 pub mod Tables
+pub mod Groupings
 pub mod Collecting
 pub mod Rows
 pub mod Lifting

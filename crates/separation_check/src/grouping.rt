@@ -1,5 +1,5 @@
 // The groups of islands that stand in one class.
-ghost use Rattle.std.specs.Prelude.{◌≡◌, ◌<◌, ◌≤◌, ℕ, true, false, not, List, IfOk, length, replicate, slice_index};
+ghost use Rattle.std.specs.Prelude.{◌≡◌, ◌<◌, ◌≤◌, ℕ, true, false, not, List, IfOk, length, replicate};
 ghost use Rattle.board_base.specs.declared.places.Cell.{Cell};
 ghost use Rattle.cell_sets.specs.Chains.{IsClasses};
 ghost use Rattle.cell_sets.specs.Groups.{AreGroups};
@@ -8,41 +8,15 @@ ghost use Rattle.separation_check.specs.Meetings.{islands_of, classes_of};
 ghost use Rattle.separation_check.specs.Grouping.{at, AreSome, IsTable, IsListed, IsMembers, AreInOrder, AreAllFound};
 
 use crate::meetings::{Meeting, meetings_of};
+use board_base::Items;
 use cell_grid::Workbench;
 use std::alloc::{AllocError, Global};
-use std::marker::Model;
 
 // How many islands make a group.
 const SMALLEST_GROUP: usize = 2;
 
 /// The numbers of the islands that stand in one class, ascending.
-#[derive(Drop)]
-pub struct Group {
-    islands: Vec<u16>,
-}
-
-impl Model for Group {
-    ghost Value = { List ℕ };
-
-    ghost view = { λ g. g.islands.items };
-}
-
-impl Group {
-    /// How many islands the group has.
-    pub fn len(&self) -> usize
-        ensures { result ≡ length self.now }
-    {
-        self.islands.len()
-    }
-
-    /// The number of the island at `k`, counted from 0.
-    pub fn at(&self, k: usize) -> u16
-        requires { k < length self.now }
-        ensures { result ≡ slice_index self.now k }
-    {
-        self.islands[k]
-    }
-}
+pub type Group = Items<u16>;
 
 // So many marks, none set.
 fn marks(alloc: Global, n: usize) -> Result<Vec<bool>, AllocError>
@@ -171,7 +145,7 @@ fn groups_by(
     'classes: for class in list {
         let islands = members(alloc, meetings, *class, table)?;
         if islands.len() >= SMALLEST_GROUP {
-            groups.push(Group { islands })?;
+            groups.push(Items::of(islands))?;
         }
     }
     Ok(groups)

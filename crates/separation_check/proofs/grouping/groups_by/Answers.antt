@@ -1,7 +1,8 @@
-use Rattle.std.proofs.Common.{rules, Vec, Global, List, ℕ, ◌<◌, ◌≤◌, ◌∙◌, ap, refl, length, arith}
+use Rattle.std.proofs.Common.{rules, Vec, Global, List, ℕ, ◌<◌, ◌≤◌, [], ◌∷◌, ◌++◌, ◌∙◌, ap, refl, length, arith}
 use Rattle.separation_check.specs.Meetings.{islands_of}
 use Rattle.separation_check.specs.Grouping.{at}
-use Rattle.separation_check.proofs.Tables.{listing_on, listing_off, listing_ended, island_in, islands_len}
+use Rattle.separation_check.proofs.Tables.{island_in, islands_len}
+use Rattle.separation_check.proofs.Groupings.{listing_on, listing_off, listing_ended}
 use Rattle.separation_check.proofs.grouping.groups_by.Goals as goal
 use Rattle.separation_check.proofs.grouping.groups_by.Goals.{then-len-ge-SMALLEST_GROUP+in_ok-push, else-len-ge-SMALLEST_GROUP}
 
@@ -14,7 +15,8 @@ classes-preserved c =
           elim c.if-len-ge-SMALLEST_GROUP.branch [
             | then-len-ge-SMALLEST_GROUP+in_ok-push w ↦
                 let two : 2 ≤ length c.in_ok-islands.islands.items = search rules in
-                listing_on _ _ _ _ _ _ _ _ _ p.listing c.classes-test.true refl q two (ap (λ (v : Vec (List ℕ) Global). v.items) w.groups-is ∙ w.in_ok-push.ensures.items)
+                listing_on _ _ _ _ _ _ _ _ _ p.listing c.classes-test.true refl q two
+                (ap (λ (v : Vec (List ℕ) Global). v.items) w.groups-is ∙ w.in_ok-push.ensures.items ∙ ap (λ (xs : List ℕ). c.classes.groups.items ++ xs ∷ []) w.of.ensures)
             | else-len-ge-SMALLEST_GROUP w ↦
                 let short : length c.in_ok-islands.islands.items < 2 = search rules in
                 listing_off _ _ _ _ _ _ _ _ _ p.listing c.classes-test.true refl q short (ap (λ (v : Vec (List ℕ) Global). v.items) w.groups-is)

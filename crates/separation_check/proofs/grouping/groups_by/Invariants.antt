@@ -1,6 +1,6 @@
 use Rattle.std.proofs.Common.{◌≡◌, length}
 use Rattle.separation_check.specs.Meetings.{islands_of, classes_of}
-use Rattle.separation_check.proofs.Tables.{IsListing}
+use Rattle.separation_check.proofs.Groupings.{IsListing}
 use Rattle.separation_check.proofs.grouping.groups_by.Given as goal
 
 abbrev pub invariant-classes : goal.invariant-classes
