@@ -23,9 +23,9 @@ use Rattle.excellon.specs.declared.line.Part.TheVariants as parts
 use Rattle.excellon.specs.declared.line.Said.{Said}
 use Rattle.excellon.specs.declared.line.Said.TheVariants as says
 use Rattle.excellon.specs.Laws.{KeepsPace}
+use Rattle.excellon.proofs.ReadyLaws.{one_more_in}
 use Rattle.drill_plan.specs.Sets.{Has}
 use Rattle.drill_plan.specs.Limits.{HasFewDiameters, FewDiametersLaw}
-use Rattle.drill_plan.proofs.SetLaws.{one_more}
 use Rattle.drill_plan.proofs.HasLaws.{has_left, has_right}
 use Rattle.drill_plan.proofs.LinePartLaws.{FitsPart, said_fits}
 
@@ -97,7 +97,7 @@ own_tool now d few e = by_test (now.selected == 0) refl e
 
 module _ (tool : ℕ → Option ℤ) where
   holes_tooled : (act : Act) (own : Option ℤ) (at : Point) (holes : List Hole) → ((d : ℤ) → own ≡ Some d → IsOfTool tool d) → All (λ h. IsOfTool tool h.diameter) holes → All (λ h. IsOfTool tool h.diameter) (holes_with act own at holes)
-  holes_tooled acts.Hole (Some d) at holes of all = one_more (λ (h : Hole). IsOfTool tool h.diameter) holes (record { diameter = d; at = at }) all (of d refl)
+  holes_tooled acts.Hole (Some d) at holes of all = one_more_in (λ (h : Hole). IsOfTool tool h.diameter) holes (record { diameter = d; at = at }) all (of d refl)
   holes_tooled acts.Hole None at holes of all = all
   holes_tooled acts.Cut own at holes of all = all
   holes_tooled acts.Slot own at holes of all = all
@@ -105,9 +105,9 @@ module _ (tool : ℕ → Option ℤ) where
 
   slots_tooled : (act : Act) (own : Option ℤ) (from to : Point) (slots : List Slot) → ((d : ℤ) → own ≡ Some d → IsOfTool tool d) → All (λ s. IsOfTool tool s.diameter) slots → All (λ s. IsOfTool tool s.diameter) (slots_with act own from to slots)
   slots_tooled acts.Hole own from to slots of all = all
-  slots_tooled acts.Cut (Some d) from to slots of all = one_more (λ (s : Slot). IsOfTool tool s.diameter) slots (record { diameter = d; from = from; to = to }) all (of d refl)
+  slots_tooled acts.Cut (Some d) from to slots of all = one_more_in (λ (s : Slot). IsOfTool tool s.diameter) slots (record { diameter = d; from = from; to = to }) all (of d refl)
   slots_tooled acts.Cut None from to slots of all = all
-  slots_tooled acts.Slot (Some d) from to slots of all = one_more (λ (s : Slot). IsOfTool tool s.diameter) slots (record { diameter = d; from = from; to = to }) all (of d refl)
+  slots_tooled acts.Slot (Some d) from to slots of all = one_more_in (λ (s : Slot). IsOfTool tool s.diameter) slots (record { diameter = d; from = from; to = to }) all (of d refl)
   slots_tooled acts.Slot None from to slots of all = all
   slots_tooled acts.Move own from to slots of all = all
 

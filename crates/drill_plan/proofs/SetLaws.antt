@@ -17,7 +17,6 @@ use Rattle.excellon.specs.Fits.{IsHole, IsSlot, IsDrilled}
 use Rattle.excellon.specs.declared.file.DrillFile.{DrillFile}
 use Rattle.path_order.specs.Orders.{ArePlaces}
 use Rattle.drill_plan.specs.declared.plans.ToolPlan.{ToolPlan}
-use Rattle.std.proofs.lemmas.List.Elements.{All-append}
 use Rattle.drill_plan.specs.Tools.{tool_of}
 use Rattle.drill_plan.specs.Sets.{Has, IsAscending}
 use Rattle.drill_plan.specs.Entries.{by_rows, by_ends, is_hole, hole_place, slot_place, places_of}
@@ -318,10 +317,6 @@ pub slots_are : {E : Type 0} (slots : List (Point × Point)) (keys listed : List
     → IfOk result (λ ends. ends ≡ map key_ends listed) → IfOk result (λ ends. IsAscending by_ends slots ends)
 slots_are slots keys listed (Ok list) k same r l = slots_ascend slots list keys k (l ∙ ap (map key_ends) same) r
 slots_are slots keys listed (Err e) k same r l = tt
-
--- one more of all
-pub one_more : {X : Type 0} (P : X → Type 0) (xs : List X) (x : X) → All P xs → P x → All P (xs ++ x ∷ [])
-one_more P xs x all one = All-append P xs (x ∷ []) all (all_of_has P (x ∷ []) (λ y. by_either (λ same. subst P same one) (λ none. absurd none)))
 
 -- the tools of a plan with one more
 pub more_tools : (plan new : List ToolPlan) (t : ToolPlan) (tools : List ℤ) (i : ℕ) → i < length tools → map (λ t. t.diameter) plan ≡ take i tools → new ≡ plan ++ t ∷ [] → t.diameter ≡ get_or tools i (pos 0)

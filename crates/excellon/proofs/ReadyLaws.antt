@@ -49,7 +49,7 @@ gone s new way e is n = ap kept n ∙ subst (λ e. kept (state_with s way e) ≡
 -- Where no check fails.
 
 -- none of the tests holds
-abbrev NonePasses : List (Bool × DrillKind) → Type 0
+abbrev pub NonePasses : List (Bool × DrillKind) → Type 0
 NonePasses [] = ⊤
 NonePasses (f ∷ fs) = (f.0 ≡ false) × NonePasses fs
 
@@ -57,7 +57,7 @@ head_fails : (b : Bool) (kind : DrillKind) (rest : Option DrillKind) → (if b t
 head_fails true kind rest e = absurd cc
 head_fails false kind rest e = (refl, e)
 
-all_fail : (fs : List (Bool × DrillKind)) → first_fault fs ≡ None → NonePasses fs
+pub all_fail : (fs : List (Bool × DrillKind)) → first_fault fs ≡ None → NonePasses fs
 all_fail [] e = tt
 all_fail (f ∷ fs) e = let head = head_fails f.0 f.1 (first_fault fs) e in (head.0, all_fail fs head.1)
 
@@ -66,15 +66,15 @@ all_fail (f ∷ fs) e = let head = head_fails f.0 f.1 (first_fault fs) e in (hea
 wide_most : (d : ℤ) → not (int_le d (pos 20000000)) ≡ false → d ≤ℤ pos 20000000
 wide_most d e = grind (arith, ints, e)
 
-defined_most : (unit : Option Unit) (size : ℕ) (d : ℤ) → is_wide (diameter_of unit size) ≡ false → diameter_of unit size ≡ Some d → d ≤ℤ pos 20000000
+pub defined_most : (unit : Option Unit) (size : ℕ) (d : ℤ) → is_wide (diameter_of unit size) ≡ false → diameter_of unit size ≡ Some d → d ≤ℤ pos 20000000
 defined_most unit size d w e = wide_most d (sym (ap is_wide e) ∙ w)
 
-chosen_most : (b : Bool) (own old : Option ℤ) (d : ℤ) → (own ≡ Some d → d ≤ℤ pos 20000000) → (old ≡ Some d → d ≤ℤ pos 20000000) → option_or (if b then own else None) old ≡ Some d → d ≤ℤ pos 20000000
+pub chosen_most : (b : Bool) (own old : Option ℤ) (d : ℤ) → (own ≡ Some d → d ≤ℤ pos 20000000) → (old ≡ Some d → d ≤ℤ pos 20000000) → option_or (if b then own else None) old ≡ Some d → d ≤ℤ pos 20000000
 chosen_most true (Some x) old d new was e = new e
 chosen_most true None old d new was e = was e
 chosen_most false own old d new was e = was e
 
-selected_most : (b : Bool) (tool : Option ℤ) (d : ℤ) → (tool ≡ Some d → d ≤ℤ pos 20000000) → (if b then None else tool) ≡ Some d → d ≤ℤ pos 20000000
+pub selected_most : (b : Bool) (tool : Option ℤ) (d : ℤ) → (tool ≡ Some d → d ≤ℤ pos 20000000) → (if b then None else tool) ≡ Some d → d ≤ℤ pos 20000000
 selected_most true tool d was e = absurd cc
 selected_most false tool d was e = was e
 
@@ -83,14 +83,14 @@ is_diameter d e most = record { some = grind (arith, ints, e); most = most }
 
 -- Holes and slots.
 
-one_more_in : {X : Type 0} (P : X → Type 0) (xs : List X) (x : X) → All P xs → P x → All P (xs ++ x ∷ [])
+pub one_more_in : {X : Type 0} (P : X → Type 0) (xs : List X) (x : X) → All P xs → P x → All P (xs ++ x ∷ [])
 one_more_in {X = X} P xs x all one = All-append P xs (x ∷ []) all (λ k d h. lone k d h)
   where
     lone : (k : ℕ) (d : X) → k < 1 → P (get_or (x ∷ []) k d)
     lone zero d h = one
     lone (suc k) d h = absurd (omega (arith, h))
 
-still_holes : (act : Act) (tool : Option ℤ) (at : Point) (holes : List Hole) → (hits act && is_empty tool) ≡ false → ((d : ℤ) → tool ≡ Some d → d ≤ℤ pos 20000000) → IsPlace at
+pub still_holes : (act : Act) (tool : Option ℤ) (at : Point) (holes : List Hole) → (hits act && is_empty tool) ≡ false → ((d : ℤ) → tool ≡ Some d → d ≤ℤ pos 20000000) → IsPlace at
     → All IsHole holes → All IsHole (holes_with act tool at holes)
 still_holes acts.Hole (Some d) at holes e most place all = one_more_in IsHole holes (record { diameter = d; at = at }) all (record { diameter = is_diameter d e (most d refl); place = place })
 still_holes acts.Hole None at holes e most place all = all
@@ -98,7 +98,7 @@ still_holes acts.Cut tool at holes e most place all = all
 still_holes acts.Slot tool at holes e most place all = all
 still_holes acts.Move tool at holes e most place all = all
 
-still_slots : (act : Act) (tool : Option ℤ) (from to : Point) (slots : List Slot) → (hits act && is_empty tool) ≡ false → ((d : ℤ) → tool ≡ Some d → d ≤ℤ pos 20000000) → IsPlace from → IsPlace to
+pub still_slots : (act : Act) (tool : Option ℤ) (from to : Point) (slots : List Slot) → (hits act && is_empty tool) ≡ false → ((d : ℤ) → tool ≡ Some d → d ≤ℤ pos 20000000) → IsPlace from → IsPlace to
     → All IsSlot slots → All IsSlot (slots_with act tool from to slots)
 still_slots acts.Cut (Some d) from to slots e most start end all =
     one_more_in IsSlot slots (record { diameter = d; from = from; to = to }) all (record { diameter = is_diameter d e (most d refl); from = start; to = end })
@@ -112,21 +112,21 @@ still_slots acts.Move tool from to slots e most start end all = all
 not_many : (n : ℕ) → nat_lt 10000 n ≡ false → n ≤ 10000
 not_many n e = grind (arith, common_steps, e)
 
-still_few : (act : Act) (tool : Option ℤ) (from to : Point) (holes : List Hole) (slots : List Slot) → (hits act && are_many (holes_with act tool to holes) (slots_with act tool from to slots)) ≡ false
+pub still_few : (act : Act) (tool : Option ℤ) (from to : Point) (holes : List Hole) (slots : List Slot) → (hits act && are_many (holes_with act tool to holes) (slots_with act tool from to slots)) ≡ false
     → length holes + length slots ≤ 10000 → length (holes_with act tool to holes) + length (slots_with act tool from to slots) ≤ 10000
 still_few acts.Move tool from to holes slots e few = few
 still_few acts.Hole tool from to holes slots e few = not_many _ e
 still_few acts.Cut tool from to holes slots e few = not_many _ e
 still_few acts.Slot tool from to holes slots e few = not_many _ e
 
-not_far : (p : Point) → is_far p ≡ false → IsPlace p
+pub not_far : (p : Point) → is_far p ≡ false → IsPlace p
 not_far p e = inside_place p (in_both (in_range p.x && in_range p.y) e)
   where
     in_both : (b : Bool) → not b ≡ false → b ≡ true
     in_both true e = refl
     in_both false e = absurd cc
 
-or_false : (a b : Bool) → (a || b) ≡ false → (a ≡ false) × (b ≡ false)
+pub or_false : (a b : Bool) → (a || b) ≡ false → (a ≡ false) × (b ≡ false)
 or_false true b e = absurd cc
 or_false false b e = (refl, e)
 

@@ -1,113 +1,28 @@
 -- The holes and slots of bytes that stand for a drill file are on the board, and not too many.
-use Rattle.std.proofs.Common.{◌≡◌, refl, ℕ, ◌+◌, ◌≤◌, ℤ, pos, List, [], ◌∷◌, length, Bool, true, false, not, Option, Some, None, Ok, arith, ap, sym, ◌∙◌, subst}
-use Rattle.std.specs.Prelude.{◌==◌, ◌&&◌, ◌||◌, if◌then◌else◌, ◌≤ℤ◌, int_le, nat_lt, ⊤}
-use Rattle.std.specs.List.{All}
-use Rattle.std.specs.Option.{option_or}
-use Rattle.std.proofs.lemmas.Grind.{common_steps}
+use Rattle.std.proofs.Common.{◌≡◌, refl, ℕ, ◌≤◌, ℤ, pos, List, [], ◌∷◌, length, Bool, true, false, Option, Some, None, Ok, arith, subst}
+use Rattle.std.specs.Prelude.{◌==◌, ◌&&◌, if◌then◌else◌, ◌≤ℤ◌}
 use Rattle.std.proofs.lemmas.List.Elements.{All-nil}
-use Rattle.std.proofs.lemmas.Int.{ints}
-use Rattle.board_base.specs.declared.places.Point.{Point}
-use Rattle.board_base.specs.Places.{IsPlace}
 use Rattle.text_cut.specs.Lines.{Line, lines_from}
-use Rattle.plane_arcs.specs.Turned.{in_range, is_far}
-use Rattle.plane_arcs.proofs.RangeLaws.{inside_place}
+use Rattle.plane_arcs.specs.Turned.{is_far}
 use Rattle.excellon.specs.Body.{said_of}
 use Rattle.excellon.specs.InForce.{diameter_of, part_at}
-use Rattle.excellon.specs.Drilled.{act_of, tool_of, place_after, place_before, holes_with, slots_with, drilled_by}
-use Rattle.excellon.specs.Checks.{Held, held, first_fault, checks_of, fault_of, hits, is_empty, is_wide, are_many}
-use Rattle.excellon.specs.Fits.{IsDiameter, IsHole, IsSlot, IsDrilled}
+use Rattle.excellon.specs.Drilled.{act_of, tool_of, place_after, place_before, drilled_by}
+use Rattle.excellon.specs.Checks.{Held, held, checks_of, fault_of, hits, is_empty, are_many}
+use Rattle.excellon.specs.Fits.{IsHole, IsSlot, IsDrilled}
 use Rattle.excellon.specs.State.{after}
 use Rattle.excellon.specs.Drill.{Outcome, drill_of, outcome_in, told, led, is_end}
-use Rattle.excellon.specs.declared.file.Hole.{Hole}
-use Rattle.excellon.specs.declared.file.Slot.{Slot}
 use Rattle.excellon.specs.declared.file.DrillFile.{DrillFile}
 use Rattle.excellon.specs.declared.file.DrillKind.{DrillKind}
-use Rattle.excellon.specs.declared.line.Act.{Act}
-use Rattle.excellon.specs.declared.line.Act.TheVariants as acts
-use Rattle.fixed_num.specs.declared.units.Unit.{Unit as LengthUnit}
 use Rattle.excellon.specs.declared.line.Said.{Said}
 use Rattle.excellon.specs.declared.line.Said.TheVariants as says
 use Rattle.excellon.proofs.ReachedLaws.{after_held}
-use Rattle.drill_plan.proofs.SetLaws.{one_more}
+use Rattle.excellon.proofs.ReadyLaws.{all_fail, defined_most, chosen_most, selected_most, still_holes, still_slots, still_few, not_far, or_false}
 
--- ---- where no check fails
-
--- none of the tests holds
-abbrev NonePasses : List (Bool × DrillKind) → Type 0
-NonePasses [] = ⊤
-NonePasses (f ∷ fs) = (f.0 ≡ false) × NonePasses fs
-
-head_fails : (b : Bool) (kind : DrillKind) (rest : Option DrillKind) → (if b then Some kind else rest) ≡ None → (b ≡ false) × (rest ≡ None)
-head_fails true kind rest e = absurd cc
-head_fails false kind rest e = (refl, e)
-
-all_fail : (fs : List (Bool × DrillKind)) → first_fault fs ≡ None → NonePasses fs
-all_fail [] e = tt
-all_fail (f ∷ fs) e = let head = head_fails f.0 f.1 (first_fault fs) e in (head.0, all_fail fs head.1)
-
--- ---- tools, holes and slots
+-- ---- tools
 
 -- no tool is wider than 20 mm
 abbrev AreThin : (ℕ → Option ℤ) → Type 0
 AreThin tool = (number : ℕ) (d : ℤ) → tool number ≡ Some d → d ≤ℤ pos 20000000
-
-wide_most : (d : ℤ) → not (int_le d (pos 20000000)) ≡ false → d ≤ℤ pos 20000000
-wide_most d e = grind (arith, ints, e)
-
-defined_most : (unit : Option LengthUnit) (size : ℕ) (d : ℤ) → is_wide (diameter_of unit size) ≡ false → diameter_of unit size ≡ Some d → d ≤ℤ pos 20000000
-defined_most unit size d w e = wide_most d (sym (ap is_wide e) ∙ w)
-
-chosen_most : (b : Bool) (own old : Option ℤ) (d : ℤ) → (own ≡ Some d → d ≤ℤ pos 20000000) → (old ≡ Some d → d ≤ℤ pos 20000000) → option_or (if b then own else None) old ≡ Some d → d ≤ℤ pos 20000000
-chosen_most true (Some x) old d new was e = new e
-chosen_most true None old d new was e = was e
-chosen_most false own old d new was e = was e
-
-selected_most : (b : Bool) (tool : Option ℤ) (d : ℤ) → (tool ≡ Some d → d ≤ℤ pos 20000000) → (if b then None else tool) ≡ Some d → d ≤ℤ pos 20000000
-selected_most true tool d was e = absurd cc
-selected_most false tool d was e = was e
-
-is_diameter : (d : ℤ) → int_le d (pos 0) ≡ false → d ≤ℤ pos 20000000 → IsDiameter d
-is_diameter d e most = record { some = grind (arith, ints, e); most = most }
-
-holes_stay : (act : Act) (tool : Option ℤ) (at : Point) (holes : List Hole) → (hits act && is_empty tool) ≡ false → ((d : ℤ) → tool ≡ Some d → d ≤ℤ pos 20000000) → IsPlace at
-    → All IsHole holes → All IsHole (holes_with act tool at holes)
-holes_stay acts.Hole (Some d) at holes e most place all = one_more IsHole holes (record { diameter = d; at = at }) all (record { diameter = is_diameter d e (most d refl); place = place })
-holes_stay acts.Hole None at holes e most place all = all
-holes_stay acts.Cut tool at holes e most place all = all
-holes_stay acts.Slot tool at holes e most place all = all
-holes_stay acts.Move tool at holes e most place all = all
-
-slots_stay : (act : Act) (tool : Option ℤ) (from to : Point) (slots : List Slot) → (hits act && is_empty tool) ≡ false → ((d : ℤ) → tool ≡ Some d → d ≤ℤ pos 20000000) → IsPlace from → IsPlace to
-    → All IsSlot slots → All IsSlot (slots_with act tool from to slots)
-slots_stay acts.Cut (Some d) from to slots e most start end all =
-    one_more IsSlot slots (record { diameter = d; from = from; to = to }) all (record { diameter = is_diameter d e (most d refl); from = start; to = end })
-slots_stay acts.Slot (Some d) from to slots e most start end all =
-    one_more IsSlot slots (record { diameter = d; from = from; to = to }) all (record { diameter = is_diameter d e (most d refl); from = start; to = end })
-slots_stay acts.Cut None from to slots e most start end all = all
-slots_stay acts.Slot None from to slots e most start end all = all
-slots_stay acts.Hole tool from to slots e most start end all = all
-slots_stay acts.Move tool from to slots e most start end all = all
-
-not_many : (n : ℕ) → nat_lt 10000 n ≡ false → n ≤ 10000
-not_many n e = grind (arith, common_steps, e)
-
-few_stay : (act : Act) (tool : Option ℤ) (from to : Point) (holes : List Hole) (slots : List Slot) → (hits act && are_many (holes_with act tool to holes) (slots_with act tool from to slots)) ≡ false
-    → length holes + length slots ≤ 10000 → length (holes_with act tool to holes) + length (slots_with act tool from to slots) ≤ 10000
-few_stay acts.Move tool from to holes slots e few = few
-few_stay acts.Hole tool from to holes slots e few = not_many _ e
-few_stay acts.Cut tool from to holes slots e few = not_many _ e
-few_stay acts.Slot tool from to holes slots e few = not_many _ e
-
-not_far : (p : Point) → is_far p ≡ false → IsPlace p
-not_far p e = inside_place p (in_both (in_range p.x && in_range p.y) e)
-  where
-    in_both : (b : Bool) → not b ≡ false → b ≡ true
-    in_both true e = refl
-    in_both false e = absurd cc
-
-neither : (a b : Bool) → (a || b) ≡ false → (a ≡ false) × (b ≡ false)
-neither true b e = absurd cc
-neither false b e = (refl, e)
 
 -- ---- lines
 
@@ -121,16 +36,16 @@ fit_go : (h : Held) (said : Said) → IsFit h → is_far (place_before h.now sai
 fit_go h said r from to some few =
     let most : (d : ℤ) → tool_of h.now ≡ Some d → d ≤ℤ pos 20000000 = λ d t. selected_most (h.now.selected == 0) (h.now.tool h.now.selected) d (r.tools h.now.selected d) t in
     record {
-      few = few_stay (act_of h.now said) (tool_of h.now) (place_before h.now said) (place_after h.now said) h.holes h.slots few r.drilled.few;
-      holes = holes_stay (act_of h.now said) (tool_of h.now) (place_after h.now said) h.holes some most (not_far _ to) r.drilled.holes;
-      slots = slots_stay (act_of h.now said) (tool_of h.now) (place_before h.now said) (place_after h.now said) h.slots some most (not_far _ from) (not_far _ to) r.drilled.slots;
+      few = still_few (act_of h.now said) (tool_of h.now) (place_before h.now said) (place_after h.now said) h.holes h.slots few r.drilled.few;
+      holes = still_holes (act_of h.now said) (tool_of h.now) (place_after h.now said) h.holes some most (not_far _ to) r.drilled.holes;
+      slots = still_slots (act_of h.now said) (tool_of h.now) (place_before h.now said) (place_after h.now said) h.slots some most (not_far _ from) (not_far _ to) r.drilled.slots;
     }
 
 -- behind a line that is taken
 fit_after : (h : Held) (said : Said) → IsFit h → fault_of h said ≡ None → IsFit (after h said)
 fit_after h (says.Go way) r e =
     let tests = all_fail (checks_of h (says.Go way)) e in
-    let far = neither (is_far (place_before h.now (says.Go way))) (is_far (place_after h.now (says.Go way))) tests.1.1.1.1.1.0 in
+    let far = or_false (is_far (place_before h.now (says.Go way))) (is_far (place_after h.now (says.Go way))) tests.1.1.1.1.1.0 in
     record { tools = r.tools; drilled = fit_go h (says.Go way) r far.0 far.1 tests.1.1.1.1.0 tests.1.1.1.1.1.1.0 }
 fit_after h (says.Define number size) r e =
     let tests = all_fail (checks_of h (says.Define number size)) e in
