@@ -43,7 +43,7 @@ some_cells zero e = absurd cc
 some_cells (suc n) e = omega arith
 
 -- the frame that is probed is within reach, and has cells
-probed_in : (f : Frame) → IsInReach f → IsInReach (probed f) × HasCells (probed f)
+pub probed_in : (f : Frame) → IsInReach f → IsInReach (probed f) × HasCells (probed f)
 unfolding probed
 probed_in f h = by_test (nat_eq f.width 0) (nat_eq f.height 0) refl refl
   where
@@ -91,7 +91,7 @@ few_of n e = by_case (cases_lt 900 n)
     by_case (inr l) = l
 
 -- a grid that isn't refused has few probes
-not_refused : (x g : ProbeGrid) → grid_or_refused x ≡ Ok g → (g ≡ x) × (x.nx * x.ny ≤ 900)
+pub not_refused : (x g : ProbeGrid) → grid_or_refused x ≡ Ok g → (g ≡ x) × (x.nx * x.ny ≤ 900)
 not_refused x g e = by_test (nat_lt 900 (x.nx * x.ny)) refl e
   where
     by_test : (b : Bool) → nat_lt 900 (x.nx * x.ny) ≡ b → ◌≡◌ {A = Result ProbeGrid TooManyProbes} (cond b (Err (record { count = x.nx * x.ny })) (Ok x)) (Ok g) → (g ≡ x) × (x.nx * x.ny ≤ 900)

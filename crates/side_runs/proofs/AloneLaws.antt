@@ -27,7 +27,7 @@ use Rattle.side_runs.specs.Alone.{alone, AloneLaw}
 
 -- ---- the first tile
 
-none_far : (p : ℤ) → pos 0 *ℤ p ≡ pos 0
+pub none_far : (p : ℤ) → pos 0 *ℤ p ≡ pos 0
 none_far p = omega (arith, ints)
 
 not_moved : (x : ℤ) → x +ℤ pos 0 ≡ x
@@ -46,9 +46,12 @@ first_cell c i = record { i = not_moved c.i i; j = not_moved c.j i }
 there_alone : Contains alone first_tile
 there_alone = (0, omega arith, refl)
 
-the_first : (t : Tile) → Contains alone t → first_tile ≡ t
+pub the_first : (t : Tile) → Contains alone t → first_tile ≡ t
 the_first t (zero, early, is) = is
 the_first t (suc n, early, is) = absurd (omega (arith, early))
+
+pub here : (t : Tile) → Contains alone t → (c : Cell) → cell_in t c ≡ c
+here t t_in c = ap (λ (x : Tile). cell_in x c) (sym (the_first t t_in)) ∙ first_cell c
 
 -- ---- what is said of the board
 
@@ -58,7 +61,7 @@ dark_copy p painted q = (
   (λ c. subst (λ (x : Point). is_dark x painted ≡ true) (sym (c.is ∙ ap (λ (t : Tile). point_in (shift_in p t) c.of) (sym (the_first c.tile c.there)) ∙ first_point p c.of)) c.dark),
 )
 
-visited_copy : (k : Cutting) (painted : List Painted) (c : Cell) → IsVisited k painted c ↔ IsVisitedCopy k painted alone c
+pub visited_copy : (k : Cutting) (painted : List Painted) (c : Cell) → IsVisited k painted c ↔ IsVisitedCopy k painted alone c
 visited_copy k painted c = (
   (λ v. record { tile = first_tile; there = there_alone; of = c; visited = v; is = sym (first_cell c) }),
   (λ v. subst (IsVisited k painted) (sym (v.is ∙ ap (λ (t : Tile). cell_in t v.of) (sym (the_first v.tile v.there)) ∙ first_cell v.of)) v.visited),
@@ -89,9 +92,6 @@ parts_alone k depth number groups moves = (
     ),
   )),
 )
-  where
-    here : (t : Tile) → Contains alone t → (c : Cell) → cell_in t c ≡ c
-    here t t_in c = ap (λ (x : Tile). cell_in x c) (sym (the_first t t_in)) ∙ first_cell c
 
 -- ---- the program as it stands
 

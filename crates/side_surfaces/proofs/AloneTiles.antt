@@ -1,43 +1,21 @@
 -- What is said of copies in one tile is said of the board.
-use Rattle.std.proofs.Common.{◌≡◌, ◌≢◌, ◌↔◌, ℕ, zero, suc, ◌<◌, ℤ, pos, ◌+ℤ◌, ◌*ℤ◌, List, [], ◌∷◌, refl, sym, ap, subst, ◌∙◌, arith}
+use Rattle.std.proofs.Common.{◌≡◌, ◌≢◌, ℕ, ◌<◌, ℤ, pos, ◌+ℤ◌, ◌*ℤ◌, List, [], ◌∷◌, refl, sym, subst, ◌∙◌, arith}
 use Rattle.std.specs.List.{Contains}
 use Rattle.std.proofs.lemmas.Int.{ints}
 use Rattle.board_base.specs.declared.places.Cell.{Cell}
 use Rattle.cell_sets.specs.Chains.{IsLinkedOver}
 use Rattle.cell_sets.specs.Groups.{AreJoined, IsListedPair}
-use Rattle.shape_parts.specs.declared.shape.Painted.{Painted}
 use Rattle.mill_program.specs.declared.cuts.Corner.{Corner}
 use Rattle.tiling.specs.Tiles.{cut_in}
 use Rattle.tiling.specs.Copies.{Tile, first_tile, tiles_of, shift_in, cell_in}
-use Rattle.mill_plan.specs.declared.cutting.Cutting.{Cutting}
-use Rattle.mill_plan.specs.Cutting.{IsVisited}
 use Rattle.side_runs.specs.Alone.{alone}
-use Rattle.side_runs.specs.Sides.{IsVisitedCopy, AreJoinedIn}
+use Rattle.side_runs.specs.Sides.{AreJoinedIn}
+use Rattle.side_runs.proofs.AloneLaws.{none_far, the_first, here}
 
 -- ---- the first tile
 
-none_far : (p : ℤ) → pos 0 *ℤ p ≡ pos 0
-none_far p = omega (arith, ints)
-
-not_moved : (x : ℤ) → x +ℤ pos 0 ≡ x
-not_moved x = omega (arith, ints)
-
 not_shifted : (p x : ℤ) → x +ℤ pos 0 *ℤ p ≡ x
 not_shifted p x = omega (arith, ints)
-
-first_cell : (c : Cell) → cell_in first_tile c ≡ c
-first_cell c i = record { i = not_moved c.i i; j = not_moved c.j i }
-
--- it is the only one
-there_alone : Contains alone first_tile
-there_alone = (0, omega arith, refl)
-
-the_first : (t : Tile) → Contains alone t → first_tile ≡ t
-the_first t (zero, early, is) = is
-the_first t (suc n, early, is) = absurd (omega (arith, early))
-
-here : (t : Tile) → Contains alone t → (c : Cell) → cell_in t c ≡ c
-here t t_in c = ap (λ (x : Tile). cell_in x c) (sym (the_first t t_in)) ∙ first_cell c
 
 -- one tile in one row is the board's own
 pub only_tile : (step : Tile) → tiles_of 1 1 step ≡ alone
@@ -45,12 +23,6 @@ unfolding tiles_of
 only_tile step i = record { east = none_far step.east i; north = none_far step.north i } ∷ []
 
 -- ---- cells, islands and cuts
-
-pub visited_alone : (k : Cutting) (painted : List Painted) (c : Cell) → IsVisited k painted c ↔ IsVisitedCopy k painted alone c
-visited_alone k painted c = (
-  (λ v. record { tile = first_tile; there = there_alone; of = c; visited = v; is = sym (first_cell c) }),
-  (λ v. subst (IsVisited k painted) (sym (v.is ∙ here v.tile v.there v.of)) v.visited),
-)
 
 -- where islands that free cells join stand in one group, they do so in the one tile
 pub parted_alone : (Free : Cell → Type 0) (number : Cell → ℕ) (groups : List (List ℕ)) → ((u v : ℕ) → 0 < u → 0 < v → u ≢ v → AreJoined Free number u v → IsListedPair groups u v)

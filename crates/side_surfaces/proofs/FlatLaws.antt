@@ -1,16 +1,12 @@
 -- Without a grid the surface is flat: what is said over it is what is said of a program as it stands.
 use Rattle.std.proofs.Common.{◌≡◌, ℕ, ℤ, List, [], ◌∷◌, ◌++◌, map, None, refl}
 use Rattle.board_base.specs.declared.places.Cell.{Cell}
-use Rattle.board_base.specs.declared.places.Point.{Point}
 use Rattle.board_base.specs.declared.places.Move.{Move}
 use Rattle.cell_sets.proofs.Links.{linked_over}
 use Rattle.shape_parts.specs.declared.shape.Painted.{Painted}
-use Rattle.mill_program.specs.declared.cuts.Corner.{Corner}
-use Rattle.mill_program.specs.Moves.{place_of}
-use Rattle.tiling.specs.Copies.{Tile, shift_in, pos_in, cell_in}
+use Rattle.tiling.specs.Copies.{Tile, shift_in, cell_in}
 use Rattle.tiling.specs.Laws.{wanted_in}
-use Rattle.tiling.specs.Tiles.{cut_in}
-use Rattle.tiling.proofs.MoveCopies.{place_copy}
+use Rattle.tiling.proofs.ProgramLaws.{places_in}
 use Rattle.job_file.specs.declared.job.Job.{Job}
 use Rattle.mill_plan.specs.declared.cutting.Cutting.{Cutting}
 use Rattle.mill_plan.specs.Cutting.{side_cutting}
@@ -44,10 +40,6 @@ module _ (flat : FlatLaw) (job : Job) (tiles : List Tile) (answers : List ℤ) (
   )
 
 -- ---- the strokes
-
-places_in : (by : Point) (cut : List Corner) → map place_of (cut_in by cut) ≡ map (pos_in by) (map place_of cut)
-places_in by [] = refl
-places_in by (c ∷ cut) = λ i. place_copy by c i ∷ places_in by cut i
 
 tile_flat : (job : Job) (answers : List ℤ) (tile : Tile) (walks : List (List Cell)) → map (wanted_by job None answers tile) walks ≡ map (wanted_in (shift_in job.pitch tile)) (map (wanted_walk job) walks)
 tile_flat job answers tile [] = refl

@@ -19,13 +19,14 @@ use Rattle.mill_plan.specs.Cuts.{all_of}
 use Rattle.mill_plan.specs.Isolated.{IsIsolationOf}
 use Rattle.program_check.specs.Marks.{IsWhollySweptBy}
 use Rattle.side_runs.specs.Alone.{alone, AloneLaw}
+use Rattle.side_runs.proofs.AloneLaws.{visited_copy}
 use Rattle.side_levels.specs.Lattices.{LatticeLaw}
 use Rattle.side_levels.specs.LevelledSide.{MillsOver, LevelledRunLaw}
 use Rattle.side_levels.specs.Probed.{IsLevelledOver, ProbedLaw}
 use Rattle.side_surfaces.specs.Sides.{IsDeepBy, MillsBy}
 use Rattle.side_surfaces.specs.Strokes.{wants_by}
 use Rattle.side_surfaces.specs.Levelled.{LevelledSidesLaw}
-use Rattle.side_surfaces.proofs.AloneTiles.{only_tile, visited_alone, parted_alone}
+use Rattle.side_surfaces.proofs.AloneTiles.{only_tile, parted_alone}
 use Rattle.side_surfaces.proofs.GridPlaces.{first_placed}
 use Rattle.side_surfaces.proofs.LevelledWords.{words_along, levelled_wanted}
 
@@ -43,7 +44,7 @@ module _ (job : Job) (painted : List Painted) (plan : Isolation) (i : IsIsolatio
   mills_alone : AloneLaw → MillsOver job painted plan g answers moves → MillsBy job painted i.number plan.groups.items alone (Some g) answers moves
   mills_alone law m = record {
     no_bite = (law.no_bite job painted moves).1 m.no_bite;
-    passes = λ c. ((λ by. (visited_alone k painted c).0 ((m.passes c).0 by)), (λ v. (m.passes c).1 ((visited_alone k painted c).1 v)));
+    passes = λ c. ((λ by. (visited_copy k painted c).0 ((m.passes c).0 by)), (λ v. (m.passes c).1 ((visited_copy k painted c).1 v)));
     parts = parted_alone (λ c. IsWhollySweptBy k (IsDeepBy job (Some g) answers) moves c → ⊥) i.number plan.groups.items (m.parts i.number plan.islands i.islands);
   }
 

@@ -152,7 +152,7 @@ tile_value across up step p q e = answered (first_past (tiled (shifts_of across 
 
 -- ---- what is to be cut
 
-places_in : (by : Point) (cut : List Corner) → map place_of (cut_in by cut) ≡ map (pos_in by) (map place_of cut)
+pub places_in : (by : Point) (cut : List Corner) → map place_of (cut_in by cut) ≡ map (pos_in by) (map place_of cut)
 places_in by [] = refl
 places_in by (c ∷ cut) = λ t. place_copy by c t ∷ places_in by cut t
 
