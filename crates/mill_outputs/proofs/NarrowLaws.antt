@@ -14,7 +14,7 @@ use Rattle.shape_parts.specs.declared.shape.Painted.{Painted}
 use Rattle.copper_cover.specs.Kept.{dark_rectangle}
 use Rattle.mill_plan.specs.declared.cutting.Cutting.{Cutting}
 use Rattle.mill_plan.specs.Frame.{IsFrameOf}
-use Rattle.mill_plan.proofs.FrameLaws.{IsRoundOrNone, no_columns, no_rows, round, round_or_none}
+use Rattle.mill_plan.proofs.FrameLaws.{IsRoundOrNone, no_columns, no_rows, round, round_or_none, same_frame}
 use Rattle.tile_steps.specs.Steps.{IsNarrow}
 
 -- ---- one side
@@ -56,9 +56,6 @@ round_narrow p m c f pitch (round across up r) = record {
   wide = narrow_side p (c.i0 -ℤ pos m) (c.i1 +ℤ pos m) f.width pitch (ap (λ v. v +ℤ pos f.width) (sym r.west) ∙ r.east) r.reach_west r.reach_east;
   high = narrow_side p (c.j0 -ℤ pos m) (c.j1 +ℤ pos m) f.height pitch (ap (λ v. v +ℤ pos f.height) (sym r.south) ∙ r.north) r.reach_south r.reach_north;
 }
-
-same_frame : (f g : Frame) → ◌≡◌ {A = Result Frame GridError} (Ok f) (Ok g) → f ≡ g
-same_frame f g e = cc
 
 framed_narrow : (p : ℤ) (m : ℕ) (box : Option Bounds) (f : Frame) → IsPitch p → MatchOption box (◌≡◌ {A = Result Frame GridError} (Ok f) (Ok (no_cells p))) (λ b. IsFramed p m b (Ok f)) → IsNarrow p f
 framed_narrow p m None f pitch e = subst (IsNarrow p) (sym (same_frame f (no_cells p) e)) (none_narrow p)

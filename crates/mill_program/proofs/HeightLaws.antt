@@ -98,7 +98,7 @@ sum_is x xs = let l = sum_from (0 + x) xs in omega (arith, l)
 add_assoc_ℤ : (x y z : ℤ) → (x +ℤ y) +ℤ z ≡ x +ℤ (y +ℤ z)
 add_assoc_ℤ x y z = omega (arith, ints)
 
-nothing_more : (x : ℤ) → x ≡ x +ℤ pos 0
+pub nothing_more : (x : ℤ) → x ≡ x +ℤ pos 0
 nothing_more x = omega (arith, ints)
 
 -- the shares come to their weighted sum

@@ -7,7 +7,7 @@ use Rattle.board_base.proofs.LatticeLaws.{same_cell}
 use Rattle.cell_sets.specs.Chains.{IsBefore}
 use Rattle.program_check.specs.Hits.{OneHit}
 
-equal : (x y : ℤ) → y ≤ℤ x → x ≤ℤ y → x ≡ y
+pub equal : (x y : ℤ) → y ≤ℤ x → x ≤ℤ y → x ≡ y
 equal x y h k = omega (arith, ints)
 
 -- of two cells one comes before the other, or they are one

@@ -66,7 +66,7 @@ rising_holds answers lines moves e = rises_from answers 0 start lines moves e
 
 -- ---- the scan
 
-none_there : (m : Move) → Contains [] m → ⊥
+pub none_there : (m : Move) → Contains [] m → ⊥
 none_there m h = omega (arith, h.1)
 
 cons_cases : (a : Move) (ms : List Move) (m : Move) → Contains (a ∷ ms) m → (a ≡ m) ⊎ Contains ms m

@@ -14,8 +14,9 @@ use Rattle.job_file.specs.declared.job.Job.{Job}
 use Rattle.mill_plan.specs.declared.cutting.Cutting.{Cutting}
 use Rattle.mill_plan.specs.Cutting.{side_cutting, kept_by}
 use Rattle.mill_plan.specs.Frame.{error_of}
-use Rattle.mill_plan.proofs.LimitLaws.{too_many}
+use Rattle.mill_plan.proofs.LimitLaws.{too_many, errors, framed_apart}
 use Rattle.mill_plan.proofs.OneFrame.{one_frame}
+use Rattle.mill_plan.proofs.FrameLaws.{same_frame}
 use Rattle.program_check.specs.Deep.{Surface}
 use Rattle.program_check.specs.Hits.{OneHit}
 use Rattle.side_check.specs.declared.fault.SideFault.{SideFault}
@@ -63,19 +64,10 @@ then_is {A = A} r Next Next' next = one_then (Is r) Next Next' (one_is r) (λ a 
 
 -- ---- the others
 
-frame_error : (d e : GridError) → ◌≡◌ {A = Result Frame GridError} (Err d) (Err e) → d ≡ e
-frame_error d e h = cc
-
-frame_apart : (f : Frame) (e : GridError) → ◌≡◌ {A = Result Frame GridError} (Ok f) (Err e) → ⊥
-frame_apart f e h = cc
-
-frame_same : (f g : Frame) → ◌≡◌ {A = Result Frame GridError} (Ok f) (Ok g) → f ≡ g
-frame_same f g h = cc
-
 one_framed : (k : Cutting) (painted : List Painted) → OneRefusal (IsFrameFound k painted) (IsFrameFound k painted)
-one_framed k painted e (Ok f) (error, (framed, is)) framed' = absurd (frame_apart f error (one_frame k painted (Ok f) (Err error) framed' framed))
+one_framed k painted e (Ok f) (error, (framed, is)) framed' = absurd (framed_apart k painted error f framed framed')
 one_framed k painted e (Err d) (error, (framed, is)) (error', (framed', is')) =
-    let same : error' ≡ error = frame_error error' error (one_frame k painted (Err error') (Err error) framed' framed) in
+    let same : error' ≡ error = errors k painted error' error framed' framed in
     ap (λ (x : SideFault). Err x) (is' ∙ ap (λ (x : GridError). fault_of (error_of x)) same ∙ sym is)
 
 one_numbered : (kept : Cell → Bool) → OneCount → OneRefusal (AreNumbered kept) (AreNumbered kept)
@@ -132,7 +124,7 @@ module _ (job : Job) (side : Side) (painted : List Painted) (lines : List Line) 
     one_chain : OneRefusal (Then (IsFrameFound (side_cutting job) painted) (λ f. AfterFrame f)) (Then (IsFrameFound (side_cutting job) painted) (λ f. AfterFrame f))
     one_chain =
         one_then (IsFrameFound (side_cutting job) painted) (λ f. AfterFrame f) (λ f. AfterFrame f) (one_framed (side_cutting job) painted)
-        (λ f g h j. subst (λ (u : Frame). OneRefusal (AfterFrame f) (AfterFrame u)) (frame_same f g (one_frame (side_cutting job) painted (Ok f) (Ok g) h j)) (one_after f))
+        (λ f g h j. subst (λ (u : Frame). OneRefusal (AfterFrame f) (AfterFrame u)) (same_frame f g (one_frame (side_cutting job) painted (Ok f) (Ok g) h j)) (one_after f))
 
     -- where the check refuses, it has no other answer
     pub one_found : (e : SideFault) (x : Result Findings SideFault) → AreFound job side painted lines answers (Err e) → AreFound job side painted lines answers x → x ≡ Err e

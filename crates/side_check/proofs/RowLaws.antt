@@ -9,10 +9,8 @@ use Rattle.cell_grid.specs.declared.frames.Frame.{Frame}
 use Rattle.cell_grid.specs.declared.windows.Span.{Span}
 use Rattle.cell_grid.specs.Place.{InFrame, column_of, row_of}
 use Rattle.cell_grid.specs.Windows.{IsInSpan}
+use Rattle.program_check.proofs.HitLaws.{equal}
 use Rattle.side_check.specs.Struck.{IsFirstCell, IsFirstOfRow}
-
-equal : (x y : ℤ) → y ≤ℤ x → x ≤ℤ y → x ≡ y
-equal x y h k = omega (arith, ints)
 
 not_less : (x y : ℤ) → x ≤ℤ y → y <ℤ x → ⊥
 not_less x y h k = omega (arith, ints)

@@ -20,6 +20,7 @@ use Rattle.cell_grid.proofs.CellsLaws.{in_frame_true}
 use Rattle.mill_plan.proofs.MeasureLaws.{plane_inside}
 use Rattle.rs274_sim.specs.Cutter.{nanometre, IsLow}
 use Rattle.program_check.specs.Deep.{point_under}
+use Rattle.program_check.proofs.ScanLaws.{none_there}
 use Rattle.side_check.specs.Struck.{is_struck, is_struck_by, IsFirstCell, AreHarmless, IsFirstStrike}
 
 -- ---- one cell
@@ -68,9 +69,6 @@ no_move = record {
   tool = 0;
   line = 0;
 }
-
-none_there : (m : Move) → Contains [] m → ⊥
-none_there m h = omega (arith, h.1)
 
 pub one_of : (a m : Move) → Contains (a ∷ []) m → a ≡ m
 one_of a m (zero, h, e) = e

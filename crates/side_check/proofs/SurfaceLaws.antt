@@ -1,13 +1,13 @@
 -- The surface as a sum of four shares, and the grid that it goes by.
 use Rattle.std.proofs.Common.{◌≡◌, ℕ, zero, suc, ◌+◌, ◌≤◌, ◌<◌, ℤ, pos, ◌+ℤ◌, ◌*ℤ◌, unsigned_abs, true, List, [], ◌∷◌, map, length, get_or, Result, refl, sym, ap, subst, ◌∙◌, arith}
 use Rattle.std.proofs.lemmas.List.Sums.{get_or-le-sum_by}
-use borrow.Author.Differences.{ints}
 use Rattle.board_base.specs.declared.places.Point.{Point}
 use Rattle.board_base.specs.declared.places.Side.TheVariants.{Front}
 use Rattle.cell_grid.specs.declared.frames.Frame.{Frame}
 use Rattle.mill_program.specs.declared.probes.ProbeGrid.{ProbeGrid}
 use Rattle.mill_program.specs.declared.probes.Weights.{Weights}
 use Rattle.mill_program.specs.Probes.{AreShares, weighted, weights_of, answer_of, probes_of, surface_of}
+use Rattle.mill_program.proofs.HeightLaws.{nothing_more}
 use Rattle.levelling.specs.declared.grids.TooManyProbes.{TooManyProbes}
 use Rattle.levelling.specs.Grids.{grid_of}
 use Rattle.job_file.specs.declared.job.Job.{Job}
@@ -30,15 +30,12 @@ share_small w (parts, (is, len, total)) k h =
 abbrev by_four : List ℤ → ℤ → ℤ → ℤ → ℤ → ℤ
 by_four w a b c d = get_or w 0 (pos 0) *ℤ a +ℤ (get_or w 1 (pos 0) *ℤ b +ℤ (get_or w 2 (pos 0) *ℤ c +ℤ get_or w 3 (pos 0) *ℤ d))
 
-add_none : (x : ℤ) → x ≡ x +ℤ pos 0
-add_none x = omega (arith, ints)
-
 four_parts : (parts : List ℕ) (a b c d : ℤ) → length parts ≡ 4 → by_four (map pos parts) a b c d ≡ weighted (map pos parts) (a ∷ b ∷ c ∷ d ∷ [])
 four_parts [] a b c d e = absurd (omega (arith, e))
 four_parts (p ∷ []) a b c d e = absurd (omega (arith, e))
 four_parts (p ∷ q ∷ []) a b c d e = absurd (omega (arith, e))
 four_parts (p ∷ q ∷ r ∷ []) a b c d e = absurd (omega (arith, e))
-four_parts (p ∷ q ∷ r ∷ s ∷ []) a b c d e = ap (λ (x : ℤ). pos p *ℤ a +ℤ (pos q *ℤ b +ℤ (pos r *ℤ c +ℤ x))) (add_none (pos s *ℤ d))
+four_parts (p ∷ q ∷ r ∷ s ∷ []) a b c d e = ap (λ (x : ℤ). pos p *ℤ a +ℤ (pos q *ℤ b +ℤ (pos r *ℤ c +ℤ x))) (nothing_more (pos s *ℤ d))
 four_parts (p ∷ q ∷ r ∷ s ∷ t ∷ rest) a b c d e = absurd (omega (arith, e))
 
 four_weighted : (w : List ℤ) (a b c d : ℤ) → AreShares w → by_four w a b c d ≡ weighted w (a ∷ b ∷ c ∷ d ∷ [])
