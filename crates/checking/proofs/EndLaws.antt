@@ -18,6 +18,7 @@ use Rattle.endings.proofs.RunLaws.{all_told, given_by, from_told_and, refuses_we
 use Rattle.mill_inputs.proofs.ContentLaws.{ok_is}
 use Rattle.mill_inputs.proofs.AcceptLaws.{same_err}
 use Rattle.mill_outputs.proofs.PlanLaws.{err_not_ok}
+use Rattle.mill_outputs.proofs.MillLaws.{status_is}
 use Rattle.checking.specs.Words.{words_of}
 use Rattle.checking.specs.Accepted.{Accepts, accepted}
 use Rattle.checking.specs.Checked.{refused_as, Finds, Checked, Answered, joined_lines, ending_of, CheckEnds}
@@ -63,9 +64,6 @@ ends_as words given e ends = by_answer ends.0 ends.1 ends.2
     by_answer (Err status) (inl refused) is = inl (status, sym refused, is)
     by_answer (Err status) (inr (x, good, inl (fault, told, finds))) is = inr (inl (x, fault, sym good, finds, is ∙ ap refusal told))
     by_answer (Err status) (inr (x, good, inr (found, finds, made))) is = absurd (err_not_ok (record { accepts = x; found = found }) status made)
-
-status_is : (e f : Ending) → e ≡ f → e.status ≡ f.status
-status_is e f same = ap (λ (e : Ending). e.status) same
 
 -- no fault is Done
 pub fault_not_done : (fault : SideFault) → refused_as fault ≡ Done → ⊥

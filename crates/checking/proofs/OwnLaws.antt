@@ -16,6 +16,7 @@ use Rattle.shape_parts.specs.declared.shape.Painted.{Painted}
 use Rattle.rs274_sim.specs.Machine.{run_of}
 use Rattle.rs274_sim.specs.Reading.{program_of, ReadingLaw}
 use Rattle.rs274_sim.specs.Runs.{RunsTo}
+use Rattle.rs274_sim.proofs.FoundLaws.{same_ok}
 use Rattle.mill_program.specs.declared.cuts.Program.{Program}
 use Rattle.mill_program.specs.declared.probes.ProbeGrid.{ProbeGrid}
 use Rattle.mill_program.specs.GridLines.{lines_over}
@@ -73,9 +74,6 @@ use Rattle.checking.proofs.DoneLaws.{accepted_read}
 use Rattle.checking.proofs.EndLaws.{EndsOf, ends_of}
 
 -- ---- the program
-
-same_ok : {A E : Type 0} (a b : A) → ◌≡◌ {A = Result A E} (Ok a) (Ok b) → a ≡ b
-same_ok a b e = cc
 
 apart : {A E : Type 0} (a : A) (fault : E) → ◌≡◌ {A = Result A E} (Err fault) (Ok a) → ⊥
 apart a fault e = cc
