@@ -13,9 +13,9 @@ use Rattle.rs274_sim.specs.declared.line.Word.{Word}
 use Rattle.rs274_sim.specs.declared.line.Line.{Line}
 use Rattle.rs274_sim.specs.declared.line.Value.{Num, Param}
 use Rattle.rs274_sim.specs.Spelling.{has_decimals}
-use Rattle.rs274_sim.specs.Text.{SpellsValue, SpellsWord, word, setting, words_of, settings_of, SpellsPieces, SpellsPlainLine, StandsForLine, StandsFor, unblanked, is_blank}
+use Rattle.rs274_sim.specs.Text.{SpellsValue, SpellsWord, word, setting, SpellsPieces, SpellsPlainLine, StandsForLine, StandsFor, unblanked, is_blank}
 use Rattle.rs274_sim.proofs.ShortLines.{IsUpper}
-use Rattle.rs274_sim.proofs.TextLaws.{number_is_value, parts_of}
+use Rattle.rs274_sim.proofs.TextLaws.{number_is_value, parts_of, same_words, no_settings}
 use Rattle.mill_program.specs.Lines.{words}
 use Rattle.mill_program.specs.GridLines.{answer_line}
 use Rattle.mill_program.specs.Heights.{answer_parameter}
@@ -144,14 +144,6 @@ unblanked_words (w ∷ v ∷ ws) h =
 spells_words : (ws : List Word) → AllByRecursion IsWordText ws → SpellsPieces (flat_map word_over ws) (map word ws)
 spells_words [] h = tt
 spells_words (w ∷ ws) h = (word_over w, flat_map word_over ws, refl, h.0.stands, spells_words ws h.1)
-
-same_words : (ws : List Word) → ws ≡ words_of (map word ws)
-same_words [] = refl
-same_words (w ∷ ws) = ap (λ t. w ∷ t) (same_words ws)
-
-no_settings : (ws : List Word) → [] ≡ settings_of (map word ws)
-no_settings [] = refl
-no_settings (w ∷ ws) = no_settings ws
 
 spells_line : (ws : List Word) → AllByRecursion IsWordText ws → SpellsPlainLine (flat_map word_over ws) (words ws)
 spells_line ws h = record {

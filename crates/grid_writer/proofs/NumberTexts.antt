@@ -2,23 +2,20 @@
 use Rattle.std.proofs.Common.{◌≡◌, refl, ℕ, ◌+◌, ◌*◌, ◌/◌, ◌%◌, ◌^◌, ◌<◌, ◌≤◌, ℤ, pos, negsuc, ◌*ℤ◌, List, [], ◌∷◌, ◌++◌, Bool, true, false, cond, Option, Some, None, unwrap_or, length, ap, sym, ◌∙◌, subst, arith, length-append, decimal, ◌==◌}
 use Rattle.std.specs.Prelude.{unsigned_abs}
 use Rattle.std.specs.List.{AllByRecursion}
-use Rattle.std.specs.Char.{digit_value}
 use Rattle.std.specs.Str.Parse.{AllDigits, digits_value, digits_value_after}
-use Rattle.std.proofs.lemmas.Str.{digit_value_digit}
 use Rattle.std.proofs.lemmas.Str.Parse.{digit_from_value}
 use Rattle.std.proofs.lemmas.Fmt.{decimal_is_IsNumeral, length-decimal-le}
 use Rattle.std.proofs.lemmas.List.{append-nil}
 use Rattle.std.proofs.lemmas.List.Elements.{All-nil}
-use Rattle.fixed_num.specs.Decimal.{Sign, none, minus, signed, Decimal, decimal_text, value_at, EndsBy}
+use Rattle.fixed_num.specs.Decimal.{Sign, none, value_at, EndsBy}
 use Rattle.fixed_num.specs.Fixed.{digit, six_digits, sign, fixed6}
 use Rattle.fixed_num.proofs.DigitLaws.{after_append}
 use Rattle.rs274_sim.specs.declared.line.Value.{Value, Num}
 use Rattle.rs274_sim.specs.Text.{IsNumber, IsParameter, SpellsNumber}
-use Rattle.rs274_sim.proofs.ShortLines.{brief_fixed}
-use Rattle.rs274_sim.proofs.TextLaws.{millionths_of}
+use Rattle.rs274_sim.proofs.ShortLines.{short_fixed}
+use Rattle.rs274_sim.proofs.TextLaws.{digit_is, digit_below, six_are_digits, fixed_decimal, fixed_text as fixed_is, fixed_number, fixed_is_number}
 use Rattle.rs274_sim.proofs.ValueLaws.{byte_is}
 use Rattle.grid_writer.specs.Spelling.{tenths_text}
-use Rattle.grid_writer.proofs.PartLaws.{size_times}
 
 -- ---- bytes
 
@@ -46,26 +43,9 @@ visible_sign (negsuc n) = (record { low = omega arith }, tt)
 
 -- ---- digits
 
-a_digit : (k : ℕ) → k < 10 → digit_value (48 + k) ≡ k
-a_digit k h = omega (arith, digit_value_digit (48 + k) (omega arith, omega arith))
-
-digit_is : (n : ℕ) → digit_value (digit n) ≡ n % 10
-digit_is n = a_digit (n % 10) (omega arith)
-
-digit_below : (n : ℕ) → digit_value (digit n) < 10
-digit_below n = omega (arith, digit_is n)
-
-six_are_digits : (n : ℕ) → AllDigits 10 (six_digits n)
-six_are_digits n = (digit_below (n / 100000), (digit_below (n / 10000), (digit_below (n / 1000), (digit_below (n / 100), (digit_below (n / 10), (digit_below n, tt))))))
-
 -- digits behind a whole number
 behind_whole : (n : ℕ) (ds : List ℕ) → n < 2 ^ 63 → digits_value 10 (decimal n ++ ds) ≡ digits_value_after 10 n ds
 behind_whole n ds h = after_append 0 (decimal n) ds ∙ ap (λ v. digits_value_after 10 v ds) (decimal_is_IsNumeral n (omega arith)).1
-
-six_value : (n : ℕ) → n < 2 ^ 63 → digits_value 10 (decimal (n / 1000000) ++ six_digits n) ≡ n
-six_value n h =
-    let all : digits_value_after 10 (n / 1000000) (six_digits n) ≡ n = omega (arith, digit_is (n / 100000), digit_is (n / 10000), digit_is (n / 1000), digit_is (n / 100), digit_is (n / 10), digit_is n) in
-    behind_whole (n / 1000000) (six_digits n) (omega arith) ∙ all
 
 tenth_value : (n : ℕ) → n < 2 ^ 63 → digits_value 10 (decimal (n / 10) ++ digit n ∷ []) ≡ n
 tenth_value n h =
@@ -92,46 +72,20 @@ pub record IsNumberText (bytes : List ℕ) (v : Value) (most : ℕ) : Type 0 whe
 
 -- ---- six decimals
 
-abbrev mark_of : ℤ → Sign
-mark_of (pos n) = none
-mark_of (negsuc n) = minus
-
-abbrev fixed_decimal : ℤ → Decimal
-fixed_decimal z = record { sign = mark_of z; whole = decimal (unsigned_abs z / 1000000); fraction = Some (six_digits (unsigned_abs z)) }
-
-fixed_is : (z : ℤ) → fixed6 z ≡ decimal_text (fixed_decimal z)
-fixed_is (pos n) = refl
-fixed_is (negsuc n) = refl
-
-signed_value : (z : ℤ) (k : ℕ) → signed (mark_of z) (unsigned_abs z * k) ≡ z *ℤ pos k
-signed_value (pos n) k = refl
-signed_value (negsuc n) k = refl
-
-fixed_value : (z : ℤ) → unsigned_abs z ≤ 1000000000000 → value_at 12 (fixed_decimal z) ≡ z *ℤ pos 1000000
-fixed_value z h = ap (λ n. signed (mark_of z) (n * 1000000)) (six_value (unsigned_abs z) (omega (arith, h))) ∙ signed_value z 1000000
-
-fixed_size : (z : ℤ) → unsigned_abs z ≤ 1000000000000 → unsigned_abs (value_at 12 (fixed_decimal z)) ≤ 10 ^ 18
-fixed_size z h = omega (arith, h, ap unsigned_abs (fixed_value z h), size_times z 1000000)
-
 visible_fixed : (z : ℤ) → unsigned_abs z ≤ 1000000000000 → AllByRecursion IsVisible (fixed6 z)
 visible_fixed z h =
     visible_append (sign z ++ decimal (unsigned_abs z / 1000000)) (46 ∷ six_digits (unsigned_abs z))
     (visible_append (sign z) (decimal (unsigned_abs z / 1000000)) (visible_sign z) (visible_decimal (unsigned_abs z / 1000000) (omega (arith, h))))
     (record { low = omega arith }, visible_digits (six_digits (unsigned_abs z)) (six_are_digits (unsigned_abs z)))
 
-short_fixed : (z : ℤ) → unsigned_abs z ≤ 1000000000000 → length (fixed6 z) ≤ 19
-short_fixed z h =
-    let word = brief_fixed 88 (z *ℤ pos 1000000) z (record { low = omega arith; high = omega arith; not_n = omega arith }) refl refl h in
-    omega (arith, word.short, ap (λ v. length (fixed6 v)) (millionths_of z))
-
 -- millionths with six decimals
 pub fixed_text : (z : ℤ) → unsigned_abs z ≤ 1000000000000 → IsNumberText (fixed6 z) (Num (z *ℤ pos 1000000)) 19
 fixed_text z h = record {
   spells = (
     fixed_decimal z,
-    is_number (mark_of z) (unsigned_abs z / 1000000) (Some (six_digits (unsigned_abs z))) (omega (arith, h)) (six_are_digits (unsigned_abs z)) (All-nil (λ b. b ≡ 48)) (fixed_size z h),
+    fixed_is_number z h,
     fixed_is z,
-    ap Num (sym (fixed_value z h)),
+    ap Num (sym (fixed_number z (omega (arith, h)))),
   );
   visible = visible_fixed z h;
   short = short_fixed z h;

@@ -1,6 +1,6 @@
 -- The text of the parts of a line.
-use Rattle.std.proofs.Common.{◌≡◌, refl, ℕ, zero, suc, ◌+◌, ◌*◌, ◌/◌, ◌<◌, ◌≤◌, ℤ, pos, negsuc, ◌*ℤ◌, List, [], ◌∷◌, ◌++◌, length, drop, get_or, map, Bool, true, false, ap, sym, ◌∙◌, arith, append_assoc, add-one, decimal}
-use Rattle.std.specs.Prelude.{unsigned_abs, neg_ℤ}
+use Rattle.std.proofs.Common.{◌≡◌, refl, ℕ, zero, suc, ◌+◌, ◌*◌, ◌/◌, ◌<◌, ◌≤◌, ℤ, pos, ◌*ℤ◌, List, [], ◌∷◌, ◌++◌, length, drop, get_or, map, Bool, true, false, ap, sym, ◌∙◌, arith, append_assoc, add-one, decimal}
+use Rattle.std.specs.Prelude.{unsigned_abs}
 use Rattle.std.specs.List.{flat_map, join_with_byte}
 use Rattle.std.proofs.lemmas.Int.{ints}
 use Rattle.std.proofs.lemmas.List.{append-nil}
@@ -8,7 +8,7 @@ use Rattle.fixed_num.specs.Fixed.{fixed6}
 use Rattle.rs274_sim.specs.declared.line.Value.{Value, Num, Param, Expr as bracketed}
 use Rattle.rs274_sim.specs.declared.line.Expr.{Expr, Sum, Product}
 use Rattle.rs274_sim.specs.Spelling.{has_decimals, millionths}
-use Rattle.rs274_sim.proofs.TextLaws.{millionths_of}
+use Rattle.rs274_sim.proofs.TextLaws.{millionths_of, size_times}
 use Rattle.mill_program.specs.Heights.{answer_parameter, share_value, with_shares}
 use Rattle.mill_program.specs.Lines.{words}
 use Rattle.grid_writer.specs.Spelling.{inner_text, expression_text, value_text, number_text, tenths_text, word_over, line_bytes}
@@ -26,14 +26,6 @@ feed_is f = omega (arith, ints)
 -- millionths with six decimals
 pub fixed_is : (m : ℤ) → fixed6 (millionths (m *ℤ pos 1000000)) ≡ fixed6 m
 fixed_is m = ap fixed6 (millionths_of m)
-
-size_neg : (n : ℕ) → unsigned_abs (neg_ℤ (pos n)) ≡ n
-size_neg zero = refl
-size_neg (suc n) = refl
-
-pub size_times : (z : ℤ) (k : ℕ) → unsigned_abs (z *ℤ pos k) ≡ unsigned_abs z * k
-size_times (pos n) k = refl
-size_times (negsuc n) k = size_neg (suc n * k)
 
 -- millionths as tenths
 pub tenths_is : (m : ℤ) → tenths_text (unsigned_abs (m *ℤ pos 1000000) / 100000000000) ≡ tenths_text (unsigned_abs m / 100000)

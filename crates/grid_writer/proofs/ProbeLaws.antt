@@ -1,12 +1,12 @@
 -- Probes of a grid, and how far they stand from its first.
-use Rattle.std.proofs.Common.{◌≡◌, ℕ, ◌+◌, ◌*◌, ◌/◌, ◌%◌, ◌<◌, ◌≤◌, ℤ, pos, ◌≤ℤ◌, List, [], ◌∷◌, ◌++◌, suc, zero, ap, ◌∙◌, sym, arith, append_assoc, add-one}
+use Rattle.std.proofs.Common.{◌≡◌, ℕ, ◌+◌, ◌*◌, ◌/◌, ◌%◌, ◌<◌, ◌≤◌, List, [], ◌∷◌, ◌++◌, suc, zero, ap, ◌∙◌, sym, arith, append_assoc, add-one}
 use Rattle.std.specs.Prelude.{unsigned_abs}
 use Rattle.std.specs.List.{flat_map, range_with_len}
 use Rattle.std.proofs.Math.Nat.{mul-le-mul_left}
-use Rattle.std.proofs.lemmas.Int.{ints}
 use Rattle.std.proofs.lemmas.Grind.{flat_map-append}
 use Rattle.std.proofs.lemmas.List.{append-nil}
 use Rattle.mill_program.specs.declared.probes.ProbeGrid.{ProbeGrid}
+use Rattle.mill_program.proofs.ProbeLaws.{size_high}
 use Rattle.grid_writer.specs.Conditions.{IsPlaced}
 
 -- the number of a column
@@ -24,15 +24,11 @@ column_few g k h =
 pub row_few : (g : ProbeGrid) (k : ℕ) → IsPlaced g → k < g.nx * g.ny → k / g.nx ≤ 900
 row_few g k h inside = let least : k / g.nx ≤ k = omega arith in omega (arith, h.is_grid.few, inside)
 
--- no step is longer than a metre
-step_small : (z : ℤ) → pos 1 ≤ℤ z → z ≤ℤ pos 1000000000 → unsigned_abs z ≤ 1000000000
-step_small z l h = omega (arith, ints)
-
 pub dx_small : (g : ProbeGrid) → IsPlaced g → unsigned_abs g.dx ≤ 1000000000
-dx_small g h = step_small g.dx h.is_grid.dx_low h.is_grid.dx_high
+dx_small g h = size_high g.dx h.is_grid.dx_low h.is_grid.dx_high
 
 pub dy_small : (g : ProbeGrid) → IsPlaced g → unsigned_abs g.dy ≤ 1000000000
-dy_small g h = step_small g.dy h.is_grid.dy_low h.is_grid.dy_high
+dy_small g h = size_high g.dy h.is_grid.dy_low h.is_grid.dy_high
 
 -- one number more
 range_more : (a n : ℕ) → range_with_len a (suc n) ≡ range_with_len a n ++ (a + n) ∷ []

@@ -1,5 +1,5 @@
 -- The text of a program stands for its lines.
-use Rattle.std.proofs.Common.{◌≡◌, refl, ℕ, zero, suc, ◌+◌, ◌-◌, ◌*◌, ◌/◌, ◌%◌, ◌<◌, ◌≤◌, ℤ, pos, negsuc, neg_ℤ, ◌+ℤ◌, ◌*ℤ◌, ◌≤ℤ◌, List, [], ◌∷◌, ◌++◌, Bool, true, false, cond, length, ap, sym, arith}
+use Rattle.std.proofs.Common.{◌≡◌, refl, ℕ, zero, suc, ◌+◌, ◌-◌, ◌*◌, ◌/◌, ◌%◌, ◌<◌, ◌≤◌, ℤ, pos, neg_ℤ, ◌+ℤ◌, ◌*ℤ◌, ◌≤ℤ◌, List, [], ◌∷◌, ◌++◌, Bool, true, false, cond, length, ap, sym, arith}
 use Rattle.std.specs.Prelude.{unsigned_abs, Option, Some, None}
 use Rattle.std.specs.List.{AllByRecursion, flat_map, range_with_len}
 use Rattle.std.proofs.Math.Nat.{mul-le-mul}
@@ -22,8 +22,9 @@ use Rattle.mill_program.specs.Probes.{IsGrid, located, weights_of, probe_place}
 use Rattle.mill_program.specs.Heights.{with_shares, height_word}
 use Rattle.mill_program.specs.Lines.{code, length_word, feed_word, words, mode_line, height_line, stop_line, tool_line, spindle_line, wait_line, over_line, end_line, is_straight, foot_lines}
 use Rattle.mill_program.specs.GridLines.{over_place, contact_line, probe_lines, probing_lines, plunge_over, stroke_over, steps_over, cut_over, run_over, lines_over}
-use Rattle.mill_program.proofs.HeightLaws.{located_is}
+use Rattle.mill_program.proofs.HeightLaws.{located_is, sum_small}
 use Rattle.mill_program.proofs.ProbeLaws.{axis_across, axis_up, probes_within}
+use Rattle.mill_program.proofs.WrittenLaws.{size_of, feed_size}
 use Rattle.grid_writer.specs.Conditions.{IsPlaced, IsSurface, IsOver, IsWritable}
 use Rattle.grid_writer.specs.Spelling.{text_over}
 use Rattle.grid_writer.proofs.PartLaws.{feed_is, height_is}
@@ -33,14 +34,6 @@ use Rattle.grid_writer.proofs.HeightTexts.{IsWeight, IsProbe, height_text, spell
 use Rattle.grid_writer.proofs.LineTexts.{IsShortWord, word_text_is, fixed_word, tenths_word, IsLineText, words_text, answer_is_text, stands_for_lines}
 
 -- ---- words
-
-size_of : (z : ℤ) → IsCoordinate z → unsigned_abs z ≤ 500000000
-size_of (pos n) h = omega (arith, ints, h.high)
-size_of (negsuc n) h = omega (arith, ints, h.low)
-
-feed_size : (f : ℤ) → IsFeed f → unsigned_abs (f *ℤ pos 1000) ≤ 1000000000000
-feed_size (pos n) h = omega (arith, ints, h.high)
-feed_size (negsuc n) h = absurd (omega (arith, ints, h.low))
 
 code_word : (letter n : ℕ) → IsUpper letter → has_decimals (code letter n) ≡ false → n ≤ 1000000 → IsShortWord (code letter n) 10
 code_word letter n up none few = tenths_word letter (n * 1000000000000) (n * 10) up none (omega arith) (omega arith)
@@ -174,14 +167,11 @@ stroke_text grid run plunged c s r h = by_grid grid plunged s
 
 -- ---- probes
 
-sum_size : (x y : ℤ) (m n : ℕ) → unsigned_abs x ≤ m → unsigned_abs y ≤ n → unsigned_abs (x +ℤ y) ≤ m + n
-sum_size x y m n h k = omega (arith, ints, h, k)
-
 place_size : (from step : ℤ) (n : ℕ) → IsCoordinate from → n ≤ 900 → unsigned_abs step ≤ 1000000000 → unsigned_abs (from +ℤ pos n *ℤ step) ≤ 1000000000000
 place_size from step n h few small =
     let way : unsigned_abs (pos n *ℤ step) ≡ n * unsigned_abs step = unsigned_abs-mul (pos n) step in
     let most : n * unsigned_abs step ≤ 900 * 1000000000 = mul-le-mul {n₁ = n} {m₁ = unsigned_abs step} {n₂ = 900} {m₂ = 1000000000} few small in
-    let all = sum_size from (pos n *ℤ step) 500000000 900000000000 (size_of from h) (omega arith) in
+    let all = sum_small from (pos n *ℤ step) 500000000 900000000000 (size_of from h) (omega arith) in
     omega arith
 
 place_text : (g : ProbeGrid) (k : ℕ) → IsPlaced g → k < g.nx * g.ny → IsLineText (words (over_place (probe_place g k)))

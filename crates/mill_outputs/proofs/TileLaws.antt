@@ -1,12 +1,12 @@
 -- The programs in tiles: which they are, and that they can be written and run.
-use Rattle.std.proofs.Common.{◌≡◌, ℕ, ◌≤◌, ℤ, pos, neg_ℤ, unsigned_abs, List, [], ◌∷◌, map, Option, Some, None, Result, Ok, Err, refl, sym, ap, ◌∙◌, subst, arith}
+use Rattle.std.proofs.Common.{◌≡◌, ℕ, ◌≤◌, ℤ, unsigned_abs, List, [], ◌∷◌, map, Option, Some, None, Result, Ok, Err, refl, sym, ap, ◌∙◌, subst}
 use Rattle.std.specs.Prelude.{max}
 use Rattle.std.specs.Option.{option_map}
 use Rattle.std.proofs.Math.Nat.{le-max_left, le-max_right, le_trans}
-use borrow.Author.Differences.{ints}
 use Rattle.board_base.specs.declared.places.Move.{Move}
 use Rattle.cell_grid.specs.declared.frames.Frame.{Frame}
 use Rattle.rs274_sim.specs.Runs.{Runs, RunsTo}
+use Rattle.rs274_sim.proofs.TextLaws.{size_neg}
 use Rattle.mill_program.specs.declared.cuts.Program.{Program}
 use Rattle.mill_program.specs.declared.probes.ProbeGrid.{ProbeGrid}
 use Rattle.mill_program.specs.Conditions.{IsProgram, IsRunnable}
@@ -120,9 +120,6 @@ pub record IsHeldBy (by : Tile) (f : Frame) : Type 0 where
   pub wide : f.width ≤ unsigned_abs by.east
   pub high : f.height ≤ unsigned_abs by.north
 
-turned_size : (n : ℕ) → unsigned_abs (neg_ℤ (pos n)) ≡ n
-turned_size n = omega (arith, ints)
-
 first_in : (a b c d : ℕ) → a ≤ max 1 (max (max a b) (max c d))
 first_in a b c d = le_trans (le-max_left a b) (le_trans (le-max_left (max a b) (max c d)) (le-max_right 1 (max (max a b) (max c d))))
 
@@ -151,7 +148,7 @@ back_held job plans plan there =
     let same : frames.back ≡ Some plan.frame = ap (option_map (λ (p : Isolation). p.frame)) there in
     let box = drilled_in plans.drill in
     record {
-      wide = subst (λ n. plan.frame.width ≤ n) (sym (turned_size (max 1 (max (max (columns frames.front) (columns frames.back)) (max (columns frames.outline) (drilled_columns job.pitch box))))))
+      wide = subst (λ n. plan.frame.width ≤ n) (sym (size_neg (max 1 (max (max (columns frames.front) (columns frames.back)) (max (columns frames.outline) (drilled_columns job.pitch box))))))
           (subst (λ n. n ≤ max 1 (max (max (columns frames.front) (columns frames.back)) (max (columns frames.outline) (drilled_columns job.pitch box)))) (ap columns same)
           (second_in (columns frames.front) (columns frames.back) (columns frames.outline) (drilled_columns job.pitch box)));
       high = subst (λ n. n ≤ max 1 (max (max (rows frames.front) (rows frames.back)) (max (rows frames.outline) (drilled_rows job.pitch box)))) (ap rows same)

@@ -78,7 +78,7 @@ share_ok ps answers n k told few =
     ∙ ap (λ (p : ℤ). product_of (pos n *ℤ pos 1000000) p) told.value
     ∙ product_ok (pos n) (answer_of answers k) (let h = share_small n (answer_of answers k) told.small in omega arith)
 
-sum_small : (x y : ℤ) (m n : ℕ) → unsigned_abs x ≤ m → unsigned_abs y ≤ n → unsigned_abs (x +ℤ y) ≤ m + n
+pub sum_small : (x y : ℤ) (m n : ℕ) → unsigned_abs x ≤ m → unsigned_abs y ≤ n → unsigned_abs (x +ℤ y) ≤ m + n
 sum_small x y m n h k = omega (arith, ints, h, k)
 
 sum_ok : (ps : Parameters) (v w : Value) (x y : ℤ) → value_of ps v ≡ Ok x → value_of ps w ≡ Ok y → unsigned_abs (x +ℤ y) ≤ 10 ^ 18 → value_of ps (bracketed (Sum v w)) ≡ Ok (x +ℤ y)

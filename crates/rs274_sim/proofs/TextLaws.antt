@@ -29,7 +29,7 @@ use Rattle.rs274_sim.specs.Spelling.{word_text, line_text, text_of, has_decimals
 a_digit : (k : ℕ) → k < 10 → digit_value (48 + k) ≡ k
 a_digit k h = omega (arith, digit_value_digit (48 + k) (omega arith, omega arith))
 
-digit_is : (n : ℕ) → digit_value (digit n) ≡ n % 10
+pub digit_is : (n : ℕ) → digit_value (digit n) ≡ n % 10
 digit_is n = a_digit (n % 10) (omega arith)
 
 -- digits behind digits
@@ -41,10 +41,10 @@ all_digits_append : (xs ys : List ℕ) → AllDigits 10 xs → AllDigits 10 ys �
 all_digits_append [] ys h k = k
 all_digits_append (x ∷ xs) ys h k = (h.0, all_digits_append xs ys h.1 k)
 
-digit_below : (n : ℕ) → digit_value (digit n) < 10
+pub digit_below : (n : ℕ) → digit_value (digit n) < 10
 digit_below n = omega (arith, digit_is n)
 
-six_are_digits : (n : ℕ) → AllDigits 10 (six_digits n)
+pub six_are_digits : (n : ℕ) → AllDigits 10 (six_digits n)
 six_are_digits n = (digit_below (n / 100000), (digit_below (n / 10000), (digit_below (n / 1000), (digit_below (n / 100), (digit_below (n / 10), (digit_below n, tt))))))
 
 -- the six digits behind the rest give the number
@@ -60,18 +60,18 @@ fixed_value n h =
 
 -- ---- decimals
 
-sign_of : ℤ → Sign
+pub sign_of : ℤ → Sign
 sign_of (pos n) = none
 sign_of (negsuc n) = minus
 
 -- six decimals as a decimal
-abbrev fixed_decimal : ℤ → Decimal
+abbrev pub fixed_decimal : ℤ → Decimal
 fixed_decimal z = record { sign = sign_of z; whole = decimal (unsigned_abs z / 1000000); fraction = Some (six_digits (unsigned_abs z)) }
 
 abbrev whole_decimal : ℕ → Decimal
 whole_decimal n = record { sign = none; whole = decimal n; fraction = None }
 
-fixed_text : (z : ℤ) → fixed6 z ≡ decimal_text (fixed_decimal z)
+pub fixed_text : (z : ℤ) → fixed6 z ≡ decimal_text (fixed_decimal z)
 unfolding sign_of
 fixed_text (pos n) = refl
 fixed_text (negsuc n) = refl
@@ -81,7 +81,7 @@ unfolding sign_of
 signed_value (pos n) k = refl
 signed_value (negsuc n) k = refl
 
-fixed_number : (z : ℤ) → unsigned_abs z < 2 ^ 63 → value_at 12 (fixed_decimal z) ≡ z *ℤ pos 1000000
+pub fixed_number : (z : ℤ) → unsigned_abs z < 2 ^ 63 → value_at 12 (fixed_decimal z) ≡ z *ℤ pos 1000000
 fixed_number z h = ap (λ n. signed (sign_of z) (n * 1000000)) (fixed_value (unsigned_abs z) h) ∙ signed_value z 1000000
 
 few_digits : (n : ℕ) → n < 2 ^ 63 → length (decimal (n / 1000000)) ≤ 18
@@ -94,16 +94,16 @@ fixed_is_decimal z h = record {
   some_digit = omega (arith, (decimal_is_IsNumeral (unsigned_abs z / 1000000) (omega arith)).0.0);
 }
 
-size_neg : (n : ℕ) → unsigned_abs (neg_ℤ (pos n)) ≡ n
+pub size_neg : (n : ℕ) → unsigned_abs (neg_ℤ (pos n)) ≡ n
 size_neg zero = refl
 size_neg (suc n) = refl
 
 -- the size of a number in larger units
-size_times : (z : ℤ) (k : ℕ) → unsigned_abs (z *ℤ pos k) ≡ unsigned_abs z * k
+pub size_times : (z : ℤ) (k : ℕ) → unsigned_abs (z *ℤ pos k) ≡ unsigned_abs z * k
 size_times (pos n) k = refl
 size_times (negsuc n) k = size_neg (suc n * k)
 
-fixed_is_number : (z : ℤ) → unsigned_abs z ≤ 1000000000000 → IsNumber (fixed_decimal z)
+pub fixed_is_number : (z : ℤ) → unsigned_abs z ≤ 1000000000000 → IsNumber (fixed_decimal z)
 fixed_is_number z h = record {
   decimal = fixed_is_decimal z (omega (arith, h));
   not_long = few_digits (unsigned_abs z) (omega (arith, h));
@@ -228,11 +228,11 @@ spells_words : (ws : List Word) → AllByRecursion IsWritten ws → SpellsPieces
 spells_words [] h = tt
 spells_words (w ∷ ws) h = (word_text w, flat_map word_text ws, refl, spells w h.0, spells_words ws h.1)
 
-same_words : (ws : List Word) → ws ≡ words_of (map word ws)
+pub same_words : (ws : List Word) → ws ≡ words_of (map word ws)
 same_words [] = refl
 same_words (w ∷ ws) = ap (λ t. w ∷ t) (same_words ws)
 
-no_settings : (ws : List Word) → [] ≡ settings_of (map word ws)
+pub no_settings : (ws : List Word) → [] ≡ settings_of (map word ws)
 no_settings [] = refl
 no_settings (w ∷ ws) = no_settings ws
 
