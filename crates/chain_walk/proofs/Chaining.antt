@@ -29,7 +29,7 @@ not_both a b (inr x) (inl y) = omega (arith, ints, x.0)
 not_both a b (inr x) (inr y) = omega (arith, ints, x.1, y.1)
 
 -- an earlier cell has a smaller place
-earlier_place : (f : Frame) (a b : Cell) → InFrame f a → InFrame f b → IsBefore a b → place_of f a < place_of f b
+pub earlier_place : (f : Frame) (a b : Cell) → InFrame f a → InFrame f b → IsBefore a b → place_of f a < place_of f b
 earlier_place f a b a_in b_in h =
     elim (cases_lt (place_of f a) (place_of f b)) as (λ _. place_of f a < place_of f b) [
       | inl less ↦ less

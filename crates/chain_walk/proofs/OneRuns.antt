@@ -123,14 +123,14 @@ module _ {X : Type 0} (R : X → X → Type 0) (not_both : (x y : X) → R x y �
 
 -- ---- the lists of runs
 
-before_trans : (a b c : Cell) → IsBefore a b → IsBefore b c → IsBefore a c
+pub before_trans : (a b c : Cell) → IsBefore a b → IsBefore b c → IsBefore a c
 before_trans a b c (inl x) (inl y) = inl (omega (arith, ints))
 before_trans a b c (inl x) (inr y) = inl (omega (arith, ints, y.0))
 before_trans a b c (inr x) (inl y) = inl (omega (arith, ints, x.0))
 before_trans a b c (inr x) (inr y) = inr (x.0 ∙ y.0, omega (arith, ints, x.1, y.1))
 
 -- the first run stands before the second
-abbrev Stands : List Cell → List Cell → Type 0
+abbrev pub Stands : List Cell → List Cell → Type 0
 Stands x y = IsBefore (entry x 0) (entry y 0)
 
 rising_runs : (taken : Cell → Bool) (runs : List (List Cell)) → AreRowRuns taken runs → IsRising Stands (λ x y. not_both (entry x 0) (entry y 0)) runs

@@ -31,7 +31,7 @@ pub columns_on : (f : Frame) (x y k : ℕ) → east_by (cell_by f x y) k ≡ cel
 columns_on f x y k = same_cell (f.i0 +ℤ pos x +ℤ pos k) (f.j0 +ℤ pos y) (f.i0 +ℤ pos (x + k)) (f.j0 +ℤ pos y) (omega (arith, ints)) refl
 
 -- no cell outside the frame is in a plane
-plane_inside : (f : Frame) (plane : List Bool) (c : Cell) → in_plane f plane c ≡ true → InFrame f c
+pub plane_inside : (f : Frame) (plane : List Bool) (c : Cell) → in_plane f plane c ≡ true → InFrame f c
 plane_inside f plane c on = by_bool (in_frame f c) (λ e. in_frame_is f c e) (λ e. absurd (none (in_frame f c) _ e on))
   where
     none : (t v : Bool) → t ≡ false → cond t v false ≡ true → ⊥

@@ -15,12 +15,12 @@ use Rattle.mill_program.specs.declared.cuts.Program.{Program}
 use Rattle.mill_program.specs.declared.probes.ProbeGrid.{ProbeGrid}
 use Rattle.mill_program.specs.Moves.{unnumbered, standing, turning_in, rapid, feeding, at_height, zero_pos, last_of}
 use Rattle.mill_program.specs.Probes.{probe_place}
-use Rattle.mill_program.proofs.StrokeLaws.{scaled_up}
+use Rattle.mill_program.proofs.StrokeLaws.{scaled_up, all_before_map}
 use Rattle.grid_runs.specs.Moves.{place_on, above, standing_in, probes_moves, after_probes, probes_in, step_at, steps_at, cut_at, cuts_at, after_cuts_at, runs_over, moves_over}
 use Rattle.grid_runs.specs.RunLaw.{IsCornerOf, StandsAtCorner, ExactDepthLaw}
 use Rattle.grid_runs.proofs.OverStrokes.{cuts_end_high}
 use Rattle.grid_runs.proofs.GridStrokeLaws.{probes_end_high}
-use Rattle.grid_runs.proofs.Numbered.{all_behind_map, some_behind_map}
+use Rattle.grid_runs.proofs.Numbered.{some_behind_map}
 
 -- ---- where low ends stand
 
@@ -226,7 +226,7 @@ exact_depths g answers p moves h w e = record { reached = reached; from = λ m i
     ends m inside =
         let exact = runs_exact g answers p p.runs h.one (All-contains_itself p.runs) w.high in
         All-contains (λ (n : Move). IsExact p.safe (StandsAtCorner g answers p) (unnumbered n)) moves m
-        (all_behind_map (IsExact p.safe (StandsAtCorner g answers p)) unnumbered moves (subst (All (IsExact p.safe (StandsAtCorner g answers p))) (sym e) exact)) inside
+        (all_before_map (IsExact p.safe (StandsAtCorner g answers p)) unnumbered moves (subst (All (IsExact p.safe (StandsAtCorner g answers p))) (sym e) exact)) inside
 
     reached : (c : Corner) → IsCornerOf p c → (m : Move) × Contains moves m × (m.kind ≡ Feed) × (m.turning ≡ true) × (m.to ≡ place_on g answers c)
     reached c (run, cut, has, i, j) =

@@ -1,24 +1,17 @@
 -- What moves cut doesn't look at the numbers of their lines.
 use Rattle.std.proofs.Common.{◌≡◌, refl, zero, suc, ℤ, ◌*ℤ◌, List, [], ◌∷◌, ◌++◌, ap, sym, ◌∙◌, subst, map, take, drop, length, arith}
-use Rattle.std.specs.List.{All, AllByRecursion, AllZip, Contains}
+use Rattle.std.specs.List.{AllZip, Contains}
 use Rattle.std.proofs.Math.Seq.{take-append_seam, drop-append_seam}
 use Rattle.std.proofs.lemmas.List.{take-map, drop-map, take-append-drop, length-map}
-use Rattle.std.proofs.lemmas.List.Elements.{All-from_recursion, recursion_from_All, Contains-append_right}
+use Rattle.std.proofs.lemmas.List.Elements.{Contains-append_right}
 use Rattle.board_base.specs.declared.places.Pos.{Pos}
 use Rattle.board_base.specs.declared.places.Move.{Move}
 use Rattle.rs274_sim.specs.Cutter.{IsLow, nanometre}
 use Rattle.mill_program.specs.Moves.{unnumbered}
 use Rattle.mill_program.specs.Strokes.{BeginsHigh, IsFirstStroke, AreStrokes, LeadThrough, way_over, Wanted, IsStrokeOf, CutsExactly}
+use Rattle.mill_program.proofs.StrokeLaws.{all_before_map}
 
 -- ---- lists behind a map
-
-behind_map : {A B : Type 0} (P : B → Type 0) (f : A → B) (xs : List A) → AllByRecursion P (map f xs) → AllByRecursion (λ (x : A). P (f x)) xs
-behind_map P f [] h = h
-behind_map P f (x ∷ xs) h = (h.0, behind_map P f xs h.1)
-
--- what holds of all that a map gives
-pub all_behind_map : {A B : Type 0} (P : B → Type 0) (f : A → B) (xs : List A) → All P (map f xs) → All (λ (x : A). P (f x)) xs
-all_behind_map {A = A} P f xs h = All-from_recursion (λ (x : A). P (f x)) xs (behind_map P f xs (recursion_from_All P (map f xs) h))
 
 -- what is among all that a map gives
 pub some_behind_map : {A B : Type 0} (f : A → B) (xs : List A) (y : B) → Contains (map f xs) y → (x : A) × Contains xs x × (f x ≡ y)
@@ -47,9 +40,9 @@ module _ (safe : ℤ) where
 
   first : (before stroke after : List Move) → IsFirstStroke height (map unnumbered before) (map unnumbered stroke) (map unnumbered after) → IsFirstStroke height before stroke after
   first before stroke after h = record {
-    high = all_behind_map (λ (m : Move). IsLow height m → ⊥) unnumbered before h.high;
+    high = all_before_map (λ (m : Move). IsLow height m → ⊥) unnumbered before h.high;
     some = omega (arith, h.some, length-map stroke unnumbered);
-    low = all_behind_map (IsLow height) unnumbered stroke h.low;
+    low = all_before_map (IsLow height) unnumbered stroke h.low;
     ends = begins after h.ends;
   }
 
@@ -61,11 +54,11 @@ module _ (safe : ℤ) where
   leads (p ∷ q ∷ ps) (m ∷ moves) h = (h.0, h.1, leads (q ∷ ps) moves h.2)
 
   stroke_is : (want : Wanted) (stroke : List Move) → IsStrokeOf safe want (map unnumbered stroke) → IsStrokeOf safe want stroke
-  stroke_is want stroke h = record { way = leads (way_over safe want.places) stroke h.way; tool = all_behind_map (λ (m : Move). m.tool ≡ want.tool) unnumbered stroke h.tool }
+  stroke_is want stroke h = record { way = leads (way_over safe want.places) stroke h.way; tool = all_before_map (λ (m : Move). m.tool ≡ want.tool) unnumbered stroke h.tool }
 
   -- moves with their numbers cut what they cut without them
   cuts_with : (wants : List Wanted) (strokes : List (List Move)) (moves : List Move) → AreStrokes height strokes (map unnumbered moves) → AllZip (IsStrokeOf safe) wants strokes → CutsExactly safe wants moves
-  cuts_with [] [] moves are each = record { strokes = []; are = all_behind_map (λ (m : Move). IsLow height m → ⊥) unnumbered moves are; each = each }
+  cuts_with [] [] moves are each = record { strokes = []; are = all_before_map (λ (m : Move). IsLow height m → ⊥) unnumbered moves are; each = each }
   cuts_with [] (stroke ∷ strokes) moves are each = absurd each
   cuts_with (want ∷ wants) [] moves are each = absurd each
   cuts_with (want ∷ wants) (stroke ∷ strokes) moves (before, after, joined, is_first, others) each =

@@ -13,10 +13,10 @@ use Rattle.cell_grid.specs.declared.frames.Frame.{Frame}
 use Rattle.cell_grid.specs.Grid.{Grid}
 use Rattle.cell_grid.specs.Place.{IsFrame, InFrame, place_of}
 use Rattle.cell_grid.specs.Cells.{in_frame, in_plane, number_in, is_above, IsOnBorder}
-use Rattle.cell_grid.proofs.CellsLaws.{in_frame_is}
 use Rattle.contours.specs.Contour.{IsContourOf}
 use Rattle.copper_cover.specs.Kept.{KeptLaw}
 use Rattle.shape_parts.specs.declared.shape.Painted.{Painted}
+pub use Rattle.chain_walk.proofs.RowSteps.{plane_inside}
 use Rattle.mill_plan.specs.declared.cutting.Cutting.{Cutting}
 use Rattle.mill_plan.specs.Cutting.{IsCutting, guard, kept_by}
 use Rattle.mill_plan.specs.Frame.{IsFrameOf}
@@ -171,10 +171,3 @@ plane_allowed k g n plane ok space measured is made c = by_bool (in_frame g.fram
 
     outside : in_frame g.frame c ≡ false → in_plane g.frame plane c ≡ true ↔ ((in_frame g.frame c ≡ true) × IsAllowed (in_plane g.frame g.kept) (guard k 0) c)
     outside t = ((λ e. absurd (false≢true (sym (ap (λ b. cond b (slice_index_or plane (place_of g.frame c) false) false) t) ∙ e))), (λ a. absurd (false≢true (sym t ∙ a.0))))
-
--- a cell of a plane is in its frame
-pub plane_inside : (f : Frame) (plane : List Bool) (c : Cell) → in_plane f plane c ≡ true → InFrame f c
-plane_inside f plane c on = in_frame_is f c (by_bool (in_frame f c) (λ t. t) (λ t. absurd (false≢true (sym (out t) ∙ on))))
-  where
-    out : in_frame f c ≡ false → in_plane f plane c ≡ false
-    out t = ap (λ b. cond b (slice_index_or plane (place_of f c) false) false) t

@@ -224,7 +224,7 @@ short_half p h pitch diagonal =
     never : (nn nm mn mm pp p w : ℤ) → nn ≤ℤ nm → mn ≤ℤ mm → mn ≡ nm → nn ≡ pp -ℤ pos 2 *ℤ p +ℤ pos 1 → (pos 2 *ℤ mm) <ℤ pp → w ≤ℤ pp → w ≡ pos 250 *ℤ p → pos 250 ≤ℤ p → ⊥
     never nn nm mn mm pp p w a b e f l k g o = omega (arith, ints)
 
-same_cell_by_half : (p h : ℤ) (a b : Cell) → IsPitch p → IsHalfDiagonal p h → near_of (centre_of p a) (centre_of p b) (centre_of p b) (pos 2 *ℤ (pos 0 +ℤ h)) ≡ true → a ≡ b
+pub same_cell_by_half : (p h : ℤ) (a b : Cell) → IsPitch p → IsHalfDiagonal p h → near_of (centre_of p a) (centre_of p b) (centre_of p b) (pos 2 *ℤ (pos 0 +ℤ h)) ≡ true → a ≡ b
 same_cell_by_half p h a b pitch diagonal near =
     let l : ℤ = length2 ((centre_of p a).x -ℤ (centre_of p b).x) ((centre_of p a).y -ℤ (centre_of p b).y) in
     let close = near_point (centre_of p a) (centre_of p b) (pos 2 *ℤ (pos 0 +ℤ h)) near in

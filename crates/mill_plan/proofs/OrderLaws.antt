@@ -1,35 +1,12 @@
 -- Walks taken out of a list in an order.
-use Rattle.std.proofs.Common.{◌≡◌, ◌≢◌, ℕ, ◌+◌, ◌<◌, ◌≤◌, false, List, [], ◌∷◌, ◌++◌, map, length, take, get_or, refl, sym, ap, ◌∙◌, arith}
+use Rattle.std.proofs.Common.{◌≡◌, ℕ, ◌+◌, ◌<◌, ◌≤◌, List, [], ◌∷◌, ◌++◌, map, length, take, get_or, refl, sym, ap, ◌∙◌, arith}
 use Rattle.std.specs.Prelude.{slice_set}
 use Rattle.std.proofs.lemmas.List.{get_or-set_other, length-set, map-append, take_more, take_all}
 use Rattle.std.proofs.lemmas.List.Elements.{All-get_or}
-use Rattle.std.specs.List.{range_with_len}
-use Rattle.std.proofs.Math.Dec.{eqb}
-use Rattle.std.proofs.lemmas.Bool.{eq-eqb, eqb-true, eqb-false}
-use Rattle.std.proofs.lemmas.List.FromFn.{length-range_with_len, get_or-range_with_len}
-use Rattle.std.proofs.lemmas.Map.Keys.{IsDistinct-IsPermutation, IsDistinct-from_apart, apart_from_distinct}
-use Rattle.number_laws.proofs.Tests.{by_bool}
 use Rattle.board_base.specs.declared.places.Cell.{Cell}
 use Rattle.path_order.specs.Orders.{IsOrder}
 use Rattle.path_order.proofs.Ordering.{indices_of}
-
-differ : (a b : ℕ) → a ≢ b → eqb a b ≡ false
-differ a b h = by_bool (eqb a b) (λ t. absurd (h (eqb-true a b t))) (λ f. f)
-
-flips : (x y : ℕ) → eqb x y ≡ eqb y x
-flips x y = by_bool (eqb x y) (λ t. t ∙ sym (eq-eqb y x (sym (eqb-true x y t)))) (λ f. f ∙ sym (differ y x (λ e. eqb-false x y f (sym e))))
-
--- no index stands twice in an order
-entries_differ : (n : ℕ) (order : List ℕ) → IsOrder n order → (i k : ℕ) → i < k → k < length order → get_or order i 0 ≢ get_or order k 0
-entries_differ n order is i k l m =
-    eqb-false (get_or order i 0) (get_or order k 0) (apart_from_distinct eqb order i k 0 (IsDistinct-IsPermutation eqb flips (range_with_len 0 n) order is (IsDistinct-from_apart eqb (range_with_len 0 n) apart)) l m)
-  where
-    apart : (a b d : ℕ) → a < b → b < length (range_with_len 0 n) → eqb (get_or (range_with_len 0 n) a d) (get_or (range_with_len 0 n) b d) ≡ false
-    apart a b d less inside =
-        let size : length (range_with_len 0 n) ≡ n = length-range_with_len 0 n in
-        let first = get_or-range_with_len 0 n a d (omega (arith, less, inside, size)) in
-        let second = get_or-range_with_len 0 n b d (omega (arith, inside, size)) in
-        differ (get_or (range_with_len 0 n) a d) (get_or (range_with_len 0 n) b d) (λ e. absurd (omega (arith, less, first, second, e)))
+use Rattle.path_order.proofs.Unique.{entries_differ}
 
 abbrev pub Rows : Type 0
 Rows = List (List Cell)

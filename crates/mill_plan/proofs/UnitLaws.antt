@@ -13,10 +13,10 @@ use Rattle.plane_geom.proofs.NearLaws.{near_from_reached, near_step}
 use Rattle.plane_geom.proofs.Axis.{reached_of}
 use Rattle.rs274_sim.specs.Cutter.{nanometre, scaled, under, width_of, Sweeps}
 
-abbrev sq : Ex → Ex
+abbrev pub sq : Ex → Ex
 sq a = mul a a
 
-abbrev gap_ex : Ex → Ex → Ex → Ex → Ex → Ex → Ex
+abbrev pub gap_ex : Ex → Ex → Ex → Ex → Ex → Ex → Ex
 gap_ex ux uy wx wy m n = add (sq (sub (mul n wx) (mul m ux))) (sq (sub (mul n wy) (mul m uy)))
 
 -- the way between a place and a part of a segment, in the units of the machine

@@ -169,7 +169,7 @@ split_map f (x ∷ xs) (y ∷ ys) zs e =
     (x ∷ r.0, r.1, same_list x x xs (r.0 ++ r.1) refl r.2, same_list (f x) y (map f r.0) ys (same_head (f x) y (map f xs) (ys ++ zs) e) r.3, r.4)
 
 -- what holds of all that a map gives
-all_before_map : {A B : Type 0} (P : B → Type 0) (f : A → B) (xs : List A) → All P (map f xs) → All (λ (x : A). P (f x)) xs
+pub all_before_map : {A B : Type 0} (P : B → Type 0) (f : A → B) (xs : List A) → All P (map f xs) → All (λ (x : A). P (f x)) xs
 all_before_map {A = A} P f [] h = All-nil (λ (x : A). P (f x))
 all_before_map {A = A} P f (x ∷ xs) h = All-cons (λ (y : A). P (f y)) x xs (All-head P (f x) (map f xs) h) (all_before_map P f xs (All-tail P (f x) (map f xs) h))
 

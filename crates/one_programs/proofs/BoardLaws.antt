@@ -7,7 +7,7 @@ use Rattle.std.proofs.lemmas.List.Folds.{list_any-append}
 use Rattle.std.proofs.lemmas.List.Sums.{sum_by-cons}
 use borrow.Author.Differences.{ints}
 use Rattle.number_laws.proofs.Tests.{by_bool}
-use Rattle.number_laws.proofs.Ring.{Ex, var, num, add, sub, mul, ring}
+use Rattle.number_laws.proofs.Ring.{var, num, sub, mul, ring}
 use Rattle.board_base.specs.declared.places.Cell.{Cell}
 use Rattle.board_base.specs.declared.places.Point.{Point}
 use Rattle.board_base.specs.Lattice.{centre_of, half_diagonal_of}
@@ -27,15 +27,10 @@ use Rattle.outline_loops.specs.Board.{area_loops, AreSegments, IsBoard}
 use Rattle.outline_loops.proofs.PointLaws.{ends_are, are_there}
 use Rattle.outline_loops.proofs.TracedLaws.{edges-append}
 use Rattle.outline_loops.proofs.AnswerLaws.{one_board}
+use Rattle.mill_plan.proofs.UnitLaws.{gap_ex}
 use Rattle.outline_plan.specs.CutOut.{board_of}
 
 -- ---- segments turned round
-
-abbrev sq : Ex → Ex
-sq a = mul a a
-
-abbrev gap_ex : Ex → Ex → Ex → Ex → Ex → Ex → Ex
-gap_ex ux uy wx wy m n = add (sq (sub (mul n wx) (mul m ux))) (sq (sub (mul n wy) (mul m uy)))
 
 -- what is near a segment is near it the other way
 near_turned : (q a b : Point) (d : ℤ) → near_of q a b d ≡ true → near_of q b a d ≡ true

@@ -8,14 +8,7 @@ use Rattle.cell_sets.specs.Count.{IsListOf, IsCount}
 use Rattle.cell_sets.proofs.CellLaws.{same_cell}
 use Rattle.chain_walk.specs.Walk.{origin}
 use Rattle.chain_walk.proofs.Chaining.{not_both}
-use Rattle.chain_walk.proofs.OneRuns.{one_list, rising}
-
--- what stands before an earlier cell stands before a later one
-pub before_later : (a b c : Cell) → IsBefore a b → IsBefore b c → IsBefore a c
-before_later a b c (inl x) (inl y) = inl (omega (arith, ints))
-before_later a b c (inl x) (inr y) = inl (omega (arith, ints, y.0))
-before_later a b c (inr x) (inl y) = inl (omega (arith, ints, x.0))
-before_later a b c (inr x) (inr y) = inr (x.0 ∙ y.0, omega (arith, ints, x.1, y.1))
+use Rattle.chain_walk.proofs.OneRuns.{one_list, rising, before_trans}
 
 -- cells of which neither stands before the other are one
 pub one_cell : (a b : Cell) → (IsBefore a b → ⊥) → (IsBefore b a → ⊥) → a ≡ b
@@ -34,8 +27,8 @@ one_cell a b h k =
 pub one_cell_list : (P : Cell → Type 0) (cells others : List Cell) → IsListOf P cells → IsListOf P others → cells ≡ others
 one_cell_list P cells others a b =
     one_list IsBefore not_both cells others
-    (rising IsBefore not_both before_later origin cells (λ k l. a.order k (k + 1) origin (omega arith) l))
-    (rising IsBefore not_both before_later origin others (λ k l. b.order k (k + 1) origin (omega arith) l))
+    (rising IsBefore not_both before_trans origin cells (λ k l. a.order k (k + 1) origin (omega arith) l))
+    (rising IsBefore not_both before_trans origin others (λ k l. b.order k (k + 1) origin (omega arith) l))
     (λ c there. (b.each c).1 ((a.each c).0 there))
     (λ c there. (a.each c).1 ((b.each c).0 there))
 

@@ -9,8 +9,8 @@ use Rattle.cell_sets.specs.Groups.{IsGroup, AreGroups}
 use Rattle.cell_sets.proofs.Links.{linked_sym, linked_trans}
 use Rattle.chain_walk.specs.Walk.{origin}
 use Rattle.chain_walk.proofs.Chaining.{not_both}
-use Rattle.chain_walk.proofs.OneRuns.{one_list, rising}
-use Rattle.one_programs.proofs.CellOrder.{before_later, one_cell}
+use Rattle.chain_walk.proofs.OneRuns.{one_list, rising, before_trans}
+use Rattle.one_programs.proofs.CellOrder.{one_cell}
 
 not_less : (u v : ℕ) → u < v → v < u → ⊥
 not_less u v h k = omega (arith, h, k)
@@ -55,7 +55,7 @@ module _ (Free : Cell → Type 0) (number : Cell → ℕ) where
   pub one_grouping : (groups others : List (List ℕ)) → AreGroups Free number groups → AreGroups Free number others → groups ≡ others
   one_grouping groups others a b =
       let firsts : a.firsts ≡ b.firsts =
-      one_list IsBefore not_both a.firsts b.firsts (rising IsBefore not_both before_later origin a.firsts (in_rows groups a)) (rising IsBefore not_both before_later origin b.firsts (in_rows others b))
+      one_list IsBefore not_both a.firsts b.firsts (rising IsBefore not_both before_trans origin a.firsts (in_rows groups a)) (rising IsBefore not_both before_trans origin b.firsts (in_rows others b))
       (each_found groups others a b) (each_found others groups b a) in
       let size : length groups ≡ length others = sym a.same_length ∙ ap (λ (cells : List Cell). length cells) firsts ∙ b.same_length in
       same_lists groups others size

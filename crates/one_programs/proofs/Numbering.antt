@@ -9,7 +9,7 @@ use Rattle.cell_sets.specs.Islands.{AreIslands}
 use Rattle.cell_sets.specs.Count.{IsListOf}
 use Rattle.cell_sets.proofs.Counts.{numbered_kept}
 use Rattle.chain_walk.proofs.Chaining.{not_both}
-use Rattle.one_programs.proofs.CellOrder.{before_later}
+use Rattle.chain_walk.proofs.OneRuns.{before_trans}
 
 -- a listed cell before one at index k has a lesser index
 earlier : (P : Cell → Type 0) (cells : List Cell) → IsListOf P cells → (k : ℕ) → k < length cells → (x z : Cell) → get_or cells k x ≡ x → IsBefore z x → Contains cells z → (j : ℕ) × ((j < k) × (j < length cells) × (get_or cells j z ≡ z))
@@ -51,7 +51,7 @@ module _ (kept : Cell → Bool) (cells : List Cell) (listed : IsListOf (λ c. ke
         let above : n < p y.0 = greater y.0 x x_is more y.1.1 in
         let z = a.order y.0 n some above in
         let z_in : Contains cells z.0 = (listed.each z.0).1 (numbered_kept kept p m a z.0 (subst (λ k. 0 < k) (sym z.1.1) some)) in
-        let j = earlier (λ c. kept c ≡ true) cells listed k k_in x z.0 x_at (before_later z.0 y.0 x z.1.0 y.1.0) z_in in
+        let j = earlier (λ c. kept c ≡ true) cells listed k k_in x z.0 x_at (before_trans z.0 y.0 x z.1.0 y.1.0) z_in in
         not_above fuel j.0 z.0 (omega (arith, within, j.1.0)) j.1.1 j.1.2 z.1.1 (subst (λ k. n < k) (sym (carried z.0 x z.1.1 x_is)) more)
 
     not_greater : (x : Cell) → p x ≡ n → n < q x → ⊥

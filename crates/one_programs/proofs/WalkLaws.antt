@@ -5,14 +5,14 @@ use Rattle.std.proofs.lemmas.Bool.{cases_lt}
 use Rattle.std.proofs.lemmas.Bool.Decides.{same_from_decides}
 use Rattle.std.proofs.lemmas.List.{get_or_default, same_lists}
 use Rattle.board_base.specs.declared.places.Cell.{Cell}
-use Rattle.cell_sets.specs.Chains.{IsBefore, IsLinked}
+use Rattle.cell_sets.specs.Chains.{IsLinked}
 use Rattle.cell_sets.specs.Contour.{IsContour}
 use Rattle.cell_sets.proofs.Links.{IsFree, linked_sym}
 use Rattle.shape_parts.specs.declared.shape.Painted.{Painted}
 use Rattle.chain_walk.specs.Walk.{origin, entry, IsWalkFrom, IsWalk, AreWalks}
 use Rattle.chain_walk.specs.RowRuns.{AreRowRuns}
 use Rattle.chain_walk.proofs.Chaining.{not_both}
-use Rattle.chain_walk.proofs.OneRuns.{one_list, rising, one_row_runs}
+use Rattle.chain_walk.proofs.OneRuns.{one_list, rising, one_row_runs, before_trans, Stands}
 use Rattle.chain_walk.proofs.Unique.{one_walk}
 use Rattle.path_order.proofs.Unique.{one_order}
 use Rattle.mill_plan.specs.declared.cutting.Cutting.{Cutting}
@@ -20,19 +20,15 @@ use Rattle.mill_plan.specs.Cutting.{guard, kept_by}
 use Rattle.mill_plan.specs.Cuts.{starts_of, AreOrdered, ArePassWalks, AreClearingRuns}
 use Rattle.mill_plan.proofs.SideLaws.{same_test}
 use Rattle.board_base.specs.Places.{origin as start}
-use Rattle.one_programs.proofs.CellOrder.{before_later, one_cell}
+use Rattle.one_programs.proofs.CellOrder.{one_cell}
 
 -- ---- the walks of a set
-
--- the first walk begins before the second
-abbrev Stands : List Cell → List Cell → Type 0
-Stands x y = IsBefore (entry x 0) (entry y 0)
 
 never_both : (x y : List Cell) → Stands x y → Stands y x → ⊥
 never_both x y = not_both (entry x 0) (entry y 0)
 
 stands_later : (x y z : List Cell) → Stands x y → Stands y z → Stands x z
-stands_later x y z = before_later (entry x 0) (entry y 0) (entry z 0)
+stands_later x y z = before_trans (entry x 0) (entry y 0) (entry z 0)
 
 module _ (taken : Cell → Bool) where
   -- walks of one component are one

@@ -35,7 +35,7 @@ eqb_flips x y =
     ]
 
 -- no index stands twice in an order
-entries_differ : (n : ℕ) (order : List ℕ) → IsOrder n order → (i k : ℕ) → i < k → k < length order → get_or order i 0 ≢ get_or order k 0
+pub entries_differ : (n : ℕ) (order : List ℕ) → IsOrder n order → (i k : ℕ) → i < k → k < length order → get_or order i 0 ≢ get_or order k 0
 entries_differ n order h i k l m e =
     let distinct = IsDistinct-IsPermutation eqb eqb_flips (range_with_len 0 n) order h (range_differs 0 n) in
     absurd (false≢true (sym (apart_from_distinct eqb order i k 0 distinct l m) ∙ eq-eqb (get_or order i 0) (get_or order k 0) e))

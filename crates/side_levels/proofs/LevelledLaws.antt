@@ -1,14 +1,11 @@
 -- What the run of a side's levelled program does.
-use Rattle.std.proofs.Common.{◌≡◌, ℕ, ◌<◌, ℤ, pos, ◌+ℤ◌, ◌-ℤ◌, ◌*ℤ◌, ◌≤ℤ◌, ◌<ℤ◌, Bool, true, List, [], ◌∷◌, ◌++◌, map, refl, sym, ap, subst, ◌∙◌, arith}
+use Rattle.std.proofs.Common.{◌≡◌, ℕ, ◌<◌, ℤ, pos, ◌*ℤ◌, ◌<ℤ◌, Bool, true, List, ◌++◌, map, sym, ap, subst, ◌∙◌}
 use Rattle.std.specs.List.{Contains}
-use Rattle.std.proofs.lemmas.Int.{ints, by_lt_z}
 use Rattle.std.proofs.lemmas.List.Elements.{All-contains}
-use Rattle.number_laws.proofs.Order.{square_nonneg, mul_le_left, square_le}
-use Rattle.number_laws.proofs.Ring.{var, num, add, sub, mul, ring}
 use Rattle.board_base.specs.declared.places.Point.{Point}
 use Rattle.board_base.specs.declared.places.Cell.{Cell}
 use Rattle.board_base.specs.declared.places.Move.{Move}
-use Rattle.board_base.specs.Lattice.{IsPitch, IsHalfDiagonal, centre_of, dist2, half_diagonal_of}
+use Rattle.board_base.specs.Lattice.{centre_of, half_diagonal_of}
 use Rattle.board_base.specs.Near.{near_of}
 use Rattle.cell_sets.specs.Barrier.{IsPast}
 use Rattle.cell_sets.specs.Islands.{AreIslands}
@@ -16,9 +13,7 @@ use Rattle.cell_sets.proofs.Barriers.{refl_le}
 use Rattle.cell_sets.proofs.Counts.{numbered_kept}
 use Rattle.cell_sets.proofs.Links.{linked_over}
 use Rattle.chain_walk.specs.Runs.{stepped, IsOnRun}
-use Rattle.plane_geom.specs.NearStep.{length2}
 use Rattle.plane_geom.proofs.HalfStep.{on_lattice, on_run}
-use Rattle.plane_geom.proofs.Points.{near_point, point_near}
 use Rattle.separation_check.proofs.Pairs.{pair_law_holds}
 use Rattle.shape_parts.specs.declared.shape.Painted.{Painted}
 use Rattle.rs274_sim.specs.Cutter.{nanometre, scaled, under, width_of, IsLow, Sweeps}
@@ -36,9 +31,8 @@ use Rattle.mill_plan.specs.Cutting.{kept_by, sweep_of, side_cutting, IsVisited}
 use Rattle.mill_plan.specs.Cuts.{all_of, AreTraces}
 use Rattle.mill_plan.specs.Isolated.{IsIsolationOf, IsLeft, AreJoinedGroups}
 use Rattle.mill_plan.proofs.JobLaws.{IsMilling, milling_is}
-use Rattle.mill_plan.proofs.MillsLaws.{lattice_is, near_visited}
+use Rattle.mill_plan.proofs.MillsLaws.{lattice_is, near_visited, same_cell_by_half}
 use Rattle.mill_plan.proofs.MoveLaws.{IsOverRun, IsGuarded, numbered, from_numbered}
-use Rattle.mill_plan.proofs.PointLaws.{same_cell, between}
 use Rattle.program_check.specs.Cutters.{IsCutter}
 use Rattle.program_check.specs.Hits.{IsClear}
 use Rattle.program_check.specs.Marks.{IsPassedBy, IsWhollySweptBy, PartsOthersBy}
@@ -55,65 +49,6 @@ use Rattle.side_levels.specs.LevelledSide.{IsDeepOn, PassesOver, MillsOver, Leve
 use Rattle.side_levels.proofs.LatticeLaws.{side_traces, levelled_along}
 use Rattle.side_levels.proofs.OverLaws.{deep_low, step_on, step_deep, step_from, step_to, moves_guarded, moves_there}
 use Rattle.side_levels.proofs.ProbedLaws.{probed_holds}
-
--- ---- centres
-
--- the centres of two cells are farther apart than half of a diagonal
-one_centre : (p h : ℤ) (a b : Cell) → IsPitch p → IsHalfDiagonal p h → near_of (centre_of p a) (centre_of p b) (centre_of p b) (pos 2 *ℤ (pos 0 +ℤ h)) ≡ true → a ≡ b
-one_centre p h a b pitch diagonal near =
-    let l : ℤ = length2 ((centre_of p a).x -ℤ (centre_of p b).x) ((centre_of p a).y -ℤ (centre_of p b).y) in
-    let close = near_point (centre_of p a) (centre_of p b) (pos 2 *ℤ (pos 0 +ℤ h)) near in
-    let squared : (pos 2 *ℤ (pos 0 +ℤ h)) *ℤ (pos 2 *ℤ (pos 0 +ℤ h)) ≡ pos 4 *ℤ (h *ℤ h) =
-    ring (h ∷ []) (mul (mul (num (pos 2)) (add (num (pos 0)) (var 0))) (mul (num (pos 2)) (add (num (pos 0)) (var 0)))) (mul (num (pos 4)) (mul (var 0) (var 0))) refl in
-    by_lt_z (pos 0) (dist2 b a)
-    (λ (far : pos 0 <ℤ dist2 b a).
-    let less = mul_le_left (p *ℤ p) (pos 1) (dist2 b a) (square_nonneg p) (from_one (dist2 b a) far) in
-    let once : (p *ℤ p) *ℤ pos 1 ≡ p *ℤ p = ring (p ∷ []) (mul (mul (var 0) (var 0)) (num (pos 1))) (mul (var 0) (var 0)) refl in
-    absurd (never (square_le p h (weak h diagonal.positive) (within l ((p *ℤ p) *ℤ dist2 b a) ((p *ℤ p) *ℤ pos 1) (p *ℤ p) (h *ℤ h) ((pos 2 *ℤ (pos 0 +ℤ h)) *ℤ (pos 2 *ℤ (pos 0 +ℤ h))) (between p a b) once squared less close))))
-    (λ (none : dist2 b a ≤ℤ pos 0).
-    let at_most = mul_le_left (p *ℤ p) (dist2 b a) (pos 0) (square_nonneg p) none in
-    let nothing : (p *ℤ p) *ℤ pos 0 ≡ pos 0 = ring (p ∷ []) (mul (mul (var 0) (var 0)) (num (pos 0))) (num (pos 0)) refl in
-    same_cell p a b pitch (point_near (centre_of p a) (centre_of p b) (pos 2 *ℤ pos 0) (spot l ((p *ℤ p) *ℤ dist2 b a) ((p *ℤ p) *ℤ pos 0) (between p a b) nothing at_most)))
-  where
-    from_one : (d : ℤ) → pos 0 <ℤ d → pos 1 ≤ℤ d
-    from_one d k = omega (arith, ints, k)
-
-    weak : (d : ℤ) → pos 0 <ℤ d → pos 0 ≤ℤ d
-    weak d k = omega (arith, ints, k)
-
-    within : (l m o s t u : ℤ) → l ≡ m → o ≡ s → u ≡ pos 4 *ℤ t → o ≤ℤ m → (pos 4 *ℤ l) ≤ℤ u → s ≤ℤ t
-    within l m o s t u e f g a b = omega (arith, ints, e, f, g, a, b)
-
-    spot : (l m z : ℤ) → l ≡ m → z ≡ pos 0 → m ≤ℤ z → (pos 4 *ℤ l) ≤ℤ ((pos 2 *ℤ pos 0) *ℤ (pos 2 *ℤ pos 0))
-    spot l m z e f a = omega (arith, ints, e, f, a)
-
-    -- half of a diagonal is less than the pitch
-    never : p ≤ℤ h → ⊥
-    never long =
-        let m : ℤ = h -ℤ pos 1 in
-        let n : ℤ = p -ℤ pos 1 in
-        let low = mul_le_left n n m (some p pitch.low) (less p h long) in
-        let high = mul_le_left m n m (some_more p h pitch.low long) (less p h long) in
-        let turned : m *ℤ n ≡ n *ℤ m = ring (p ∷ h ∷ []) (mul (sub (var 1) (num (pos 1))) (sub (var 0) (num (pos 1)))) (mul (sub (var 0) (num (pos 1))) (sub (var 1) (num (pos 1)))) refl in
-        let spread : n *ℤ n ≡ p *ℤ p -ℤ pos 2 *ℤ p +ℤ pos 1 = ring (p ∷ []) (mul (sub (var 0) (num (pos 1))) (sub (var 0) (num (pos 1)))) (add (sub (mul (var 0) (var 0)) (mul (num (pos 2)) (var 0))) (num (pos 1))) refl in
-        let large = mul_le_left p (pos 250) p (positive p pitch.low) pitch.low in
-        let by : p *ℤ pos 250 ≡ pos 250 *ℤ p = ring (p ∷ []) (mul (var 0) (num (pos 250))) (mul (num (pos 250)) (var 0)) refl in
-        close (n *ℤ n) (n *ℤ m) (m *ℤ n) (m *ℤ m) (p *ℤ p) p (p *ℤ pos 250) low high turned spread diagonal.least large by pitch.low
-      where
-        some : (p : ℤ) → pos 250 ≤ℤ p → pos 0 ≤ℤ (p -ℤ pos 1)
-        some p k = omega (arith, ints, k)
-
-        some_more : (p h : ℤ) → pos 250 ≤ℤ p → p ≤ℤ h → pos 0 ≤ℤ (h -ℤ pos 1)
-        some_more p h k l = omega (arith, ints, k, l)
-
-        less : (p h : ℤ) → p ≤ℤ h → (p -ℤ pos 1) ≤ℤ (h -ℤ pos 1)
-        less p h k = omega (arith, ints, k)
-
-        positive : (p : ℤ) → pos 250 ≤ℤ p → pos 0 ≤ℤ p
-        positive p k = omega (arith, ints, k)
-
-        close : (nn nm mn mm pp p w : ℤ) → nn ≤ℤ nm → mn ≤ℤ mm → mn ≡ nm → nn ≡ pp -ℤ pos 2 *ℤ p +ℤ pos 1 → (pos 2 *ℤ mm) <ℤ pp → w ≤ℤ pp → w ≡ pos 250 *ℤ p → pos 250 ≤ℤ p → ⊥
-        close nn nm mn mm pp p w a b e f l k i o = omega (arith, ints, a, b, e, f, l, k, i, o)
 
 -- a cell of a run is passed by a move over the run
 sweeps_on : (job : Job) (w : List Cell) (x y c : Cell) (move : Move) → IsOnRun w x y c → under move.from ≡ scaled (centre_of job.pitch x) → under move.to ≡ scaled (centre_of job.pitch y) → Sweeps move (centre_of job.pitch c) (pos 0)
@@ -181,7 +116,7 @@ module _ (job : Job) (painted : List Painted) (plan : Isolation) (ok : IsSideJob
         (λ by.
             let low = deep_low job g answers by.0 milling grid range fit by.2 in
             let v = near_visited job walks by.0 (centre_of job.pitch c) (pos 0) cuts.diagonal (refl_le (pos 0)) (low_over by.0 by.1 low) by.3 in
-            let one : c ≡ v.cell = one_centre job.pitch (half_diagonal_of job.pitch) c v.cell milling.pitch cuts.diagonal v.near in
+            let one : c ≡ v.cell = same_cell_by_half job.pitch (half_diagonal_of job.pitch) c v.cell milling.pitch cuts.diagonal v.near in
             subst (IsVisited k painted) (sym one) (traces.each v.walk v.cell v.there v.inside)),
         passed c,
       )

@@ -26,14 +26,11 @@ use Rattle.grid_runs.proofs.SurfaceLaws.{surface_within}
 use Rattle.job_file.specs.declared.job.Job.{Job}
 use Rattle.mill_plan.specs.Cuts.{corner_of}
 use Rattle.mill_plan.proofs.JobLaws.{IsMilling}
-use Rattle.mill_plan.proofs.MoveLaws.{IsOverRun, IsGuarded, spot_run}
+use Rattle.mill_plan.proofs.MoveLaws.{IsOverRun, IsGuarded, spot_run, at_least}
 use Rattle.program_check.specs.Deep.{point_under, IsDeepAt}
 use Rattle.side_levels.specs.Lattices.{IsCutAlong, run_with, program_over}
 use Rattle.side_levels.specs.LevelledSide.{IsDeepOn}
 use Rattle.side_levels.proofs.CutCells.{run_end}
-
-at_least : (z s : ℤ) → z ≡ s → s ≤ℤ z
-at_least z s e = omega (arith, ints, e)
 
 -- ---- heights over the surface
 

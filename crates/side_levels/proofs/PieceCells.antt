@@ -7,12 +7,12 @@ use Rattle.std.proofs.lemmas.List.{map-append}
 use Rattle.board_base.specs.declared.places.Cell.{Cell}
 use Rattle.board_base.specs.Lattice.{IsPitch}
 use Rattle.chain_walk.specs.Runs.{stepped, IsRun, IsOnRun, AreSuccessive}
-use Rattle.chain_walk.proofs.CornerRuns.{AreRuns}
+use Rattle.chain_walk.proofs.CornerRuns.{AreRuns, no_step}
 use Rattle.mill_program.specs.declared.cuts.Corner.{Corner}
 use Rattle.levelling.specs.Pieces.{towards, between, pieces}
 use Rattle.job_file.specs.declared.job.Job.{Job}
 use Rattle.mill_plan.specs.Cuts.{corner_of}
-use Rattle.side_levels.proofs.StepCells.{one_corner, stays_by_none, stepped_on, steps_to, AreUnitSteps, run_part}
+use Rattle.side_levels.proofs.StepCells.{one_corner, stepped_on, steps_to, AreUnitSteps, run_part}
 
 -- ---- numbers of steps that rise
 
@@ -155,7 +155,7 @@ piece_cells job piece w x y h r are =
     let short = pieces_short piece steps in
     let all = climb_all w x y r (0 * piece) ends steps steps (ends_climb piece 0 (between piece steps) steps short) are.few in
     let parts : map on (ends ++ steps ∷ []) ≡ map on ends ++ y ∷ [] = map-append on ends (steps ∷ []) ∙ ap (λ (z : Cell). map on ends ++ z ∷ []) (sym are.ends) in
-    let begins : on (0 * piece) ≡ x = ap on (nothing piece) ∙ stays_by_none x r.east r.north in
+    let begins : on (0 * piece) ≡ x = ap on (nothing piece) ∙ no_step x r.east r.north in
     let whole : AreRuns w (x ∷ map on ends ++ y ∷ []) (OnPart w x y r (0 * piece) steps) =
     subst (λ (cells : List Cell). AreRuns w (x ∷ cells) (OnPart w x y r (0 * piece) steps)) parts (subst (λ (z : Cell). AreRuns w (z ∷ map on (ends ++ steps ∷ [])) (OnPart w x y r (0 * piece) steps)) begins all) in
     record {

@@ -17,13 +17,6 @@ use Rattle.side_levels.proofs.AxisLaws.{steps_on, no_steps, count_is}
 
 -- ---- cells
 
--- no steps of any kind, and steps of no kind, stay
-pub stays_by_none : (x : Cell) (e f : ℤ) → stepped x e f 0 ≡ x
-stays_by_none x e f = same_cell (stepped x e f 0).i (stepped x e f 0).j x.i x.j (none x.i e) (none x.j f)
-  where
-    none : (a v : ℤ) → a +ℤ pos 0 *ℤ v ≡ a
-    none a v = ring (a ∷ v ∷ []) (add (var 0) (mul (num (pos 0)) (var 1))) (var 0) refl
-
 pub stays_on_spot : (x : Cell) (n : ℕ) → stepped x (pos 0) (pos 0) n ≡ x
 stays_on_spot x n = same_cell (stepped x (pos 0) (pos 0) n).i (stepped x (pos 0) (pos 0) n).j x.i x.j (none x.i (pos n)) (none x.j (pos n))
   where

@@ -1,44 +1,15 @@
 -- The islands of a frame have one numbering.
-use Rattle.std.proofs.Common.{◌≡◌, ◌⊎◌, inl, inr, ℕ, zero, suc, ◌+◌, ◌*◌, ◌<◌, ◌≤◌, ℤ, pos, ◌-ℤ◌, ◌+ℤ◌, ◌≤ℤ◌, ◌<ℤ◌, unsigned_abs, Bool, true, sym, subst, ◌∙◌, arith}
+use Rattle.std.proofs.Common.{◌≡◌, ◌⊎◌, inl, inr, ℕ, zero, suc, ◌<◌, ◌≤◌, Bool, true, sym, subst, ◌∙◌, arith}
 use Rattle.std.proofs.lemmas.Bool.{cases_lt}
-use Rattle.std.proofs.Math.Nat.{mul-le-mul_right}
-use borrow.Author.Differences.{ints}
 use Rattle.number_laws.proofs.Tests.{by_bool}
 use Rattle.board_base.specs.declared.places.Cell.{Cell}
-use Rattle.cell_sets.specs.Chains.{IsBefore}
 use Rattle.cell_sets.specs.Islands.{AreIslands}
 use Rattle.cell_sets.proofs.Counts.{numbered_kept}
 use Rattle.cell_grid.specs.declared.frames.Frame.{Frame}
 use Rattle.cell_grid.specs.Cells.{in_frame}
-use Rattle.cell_grid.specs.Place.{InFrame, row_of, column_of, place_of}
+use Rattle.cell_grid.specs.Place.{InFrame, place_of}
 use Rattle.cell_grid.proofs.CellsLaws.{in_frame_is}
-
--- cells of a frame that come before one another have places in that order
-earlier : (f : Frame) (c d : Cell) → InFrame f c → InFrame f d → IsBefore c d → place_of f c < place_of f d
-unfolding place_of
-earlier f c d c_in d_in (inl south) =
-    by (row_of f c) (row_of f d) f.width (column_of f c) (column_of f d) (row f.j0 c.j d.j c_in.row.low south) (column f.i0 c.i f.width c_in.column.low c_in.column.high)
-  where
-    row : (a x y : ℤ) → a ≤ℤ x → x <ℤ y → unsigned_abs (x -ℤ a) < unsigned_abs (y -ℤ a)
-    row a x y h k = omega (arith, ints)
-
-    column : (a x : ℤ) (n : ℕ) → a ≤ℤ x → x <ℤ (a +ℤ pos n) → unsigned_abs (x -ℤ a) < n
-    column a x n h k = omega (arith, ints)
-
-    by : (r s w x y : ℕ) → r < s → x < w → r * w + x < s * w + y
-    by r s w x y h k = let m : (r + 1) * w ≤ s * w = mul-le-mul_right w (next r s h) in omega (arith, m, k)
-      where
-        next : (r s : ℕ) → r < s → r + 1 ≤ s
-        next r s h = omega (arith, h)
-earlier f c d c_in d_in (inr (same, west)) =
-    subst (λ (y : ℤ). row_of f c * f.width + column_of f c < unsigned_abs (y -ℤ f.j0) * f.width + column_of f d) same
-    (by (row_of f c * f.width) (column_of f c) (column_of f d) (column f.i0 c.i d.i c_in.column.low west))
-  where
-    column : (a x y : ℤ) → a ≤ℤ x → x <ℤ y → unsigned_abs (x -ℤ a) < unsigned_abs (y -ℤ a)
-    column a x y h k = omega (arith, ints)
-
-    by : (m x y : ℕ) → x < y → m + x < m + y
-    by m x y h = omega (arith, h)
+use Rattle.chain_walk.proofs.Chaining.{earlier_place}
 
 -- one of three
 less_or : {P : Type 0} (m n : ℕ) → (m < n → P) → (m ≡ n → P) → (n < m → P) → P
@@ -85,7 +56,7 @@ module _ (kept : Cell → Bool) (f : Frame) (within : (c : Cell) → kept c ≡ 
         let d_in : InFrame f d.0 = inside d.0 (up (number d.0) more) in
         let g_in : InFrame f g.0 = inside g.0 (numbered g.0 g.1.1) in
         let linked : other c ≡ other g.0 = b.whole c g.0 (a.same c g.0 (numbered c e) (e ∙ sym g.1.1)) in
-        none_above n g.0 (by (place_of f g.0) (place_of f d.0) (place_of f c) n (earlier f g.0 d.0 g_in d_in g.1.0) (earlier f d.0 c d_in c_in d.1.0) h) g.1.1 (subst (λ (x : ℕ). m < x) linked above))
+        none_above n g.0 (by (place_of f g.0) (place_of f d.0) (place_of f c) n (earlier_place f g.0 d.0 g_in d_in g.1.0) (earlier_place f d.0 c d_in c_in d.1.0) h) g.1.1 (subst (λ (x : ℕ). m < x) linked above))
       where
         by : (x y z n : ℕ) → x < y → y < z → z < suc n → x < n
         by x y z n h k l = omega (arith, h, k, l)
