@@ -107,15 +107,19 @@ pub read_at : (w : Inside) (g : Grid) (p : Plane) (c : Cell) (k n b : ℕ) (r : 
 read_at w g p c k n b r view below place byte bit e =
     read_place w g p k n b r view below byte bit e ∙ ap (λ (x : ℕ). get_or (plane_of g p) x false) (place ∙ ap (λ (x : Grid). place_of x.frame c) view)
 
+pub write_place : (w : Inside) (g : Grid) (p : Plane) (k n b v : ℕ) (on : Bool) → grid_of w ≡ g → k < length w.flags.items → n ≡ get_or w.flags.items k n → b ≡ bit_number p
+    → (bit_at v b == 1) ≡ on → ((i : ℕ) → i < 8 → i ≢ b → bit_at v i ≡ bit_at n i) → grid_of (record w { flags = with_item w.flags k v }) ≡ with_plane g p (set (plane_of g p) k on)
+write_place w g p k n b v on view below byte bit same others =
+    let zero_default : n ≡ get_or w.flags.items k 0 = byte ∙ get_or_default w.flags.items k n 0 below in
+    plane_written w p k v on (ap (λ (x : ℕ). bit_at v x == 1) (sym bit) ∙ same)
+    (λ i h ne. others i h (λ e. ne (e ∙ bit)) ∙ ap (λ (x : ℕ). bit_at x i) zero_default)
+    ∙ ap (λ (x : Grid). with_plane x p (set (plane_of x p) k on)) view
+
 pub write_at : (w : Inside) (g : Grid) (p : Plane) (c : Cell) (k n b v : ℕ) (on : Bool) → grid_of w ≡ g → k < length w.flags.items → k ≡ place_of w.frame c
     → n ≡ get_or w.flags.items k n → b ≡ bit_number p → (bit_at v b == 1) ≡ on → ((i : ℕ) → i < 8 → i ≢ b → bit_at v i ≡ bit_at n i)
     → grid_of (record w { flags = with_item w.flags k v }) ≡ with_plane g p (set (plane_of g p) (place_of g.frame c) on)
 write_at w g p c k n b v on view below place byte bit same others =
-    let zero_default : n ≡ get_or w.flags.items k 0 = byte ∙ get_or_default w.flags.items k n 0 below in
-    plane_written w p k v on (ap (λ (x : ℕ). bit_at v x == 1) (sym bit) ∙ same)
-    (λ i h ne. others i h (λ e. ne (e ∙ bit)) ∙ ap (λ (x : ℕ). bit_at x i) zero_default)
-    ∙ ap (λ (x : ℕ). with_plane (grid_of w) p (set (plane_of (grid_of w) p) x on)) place
-    ∙ ap (λ (x : Grid). with_plane x p (set (plane_of x p) (place_of x.frame c) on)) view
+    write_place w g p k n b v on view below byte bit same others ∙ ap (λ (x : ℕ). with_plane g p (set (plane_of g p) x on)) (place ∙ ap (λ (x : Grid). place_of x.frame c) view)
 
 bits_at_len : (b : ℕ) (xs : List ℕ) → length (bits_at b xs) ≡ length xs
 unfolding bits_at

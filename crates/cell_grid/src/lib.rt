@@ -14,7 +14,7 @@ mod windows;
 
 pub use bits::Plane;
 pub use boxes::{cells_within, frame_of};
-pub use frames::{Frame, GridError, cell_at, is_in_frame};
+pub use frames::{Frame, GridError, cell_at, is_in_frame, place_at};
 pub use rows::RowBits;
 pub use tables::Workbench;
 pub use windows::{Span, Window, span_of, window_of};

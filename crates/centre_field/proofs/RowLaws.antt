@@ -3,15 +3,13 @@ use Rattle.std.proofs.Common.{◌≡◌, ◌≢◌, ℕ, ◌<◌, ◌≤◌, ◌
 use Rattle.std.proofs.lemmas.Bool.{cases_eq}
 use Rattle.std.proofs.lemmas.Bool.Decides.{nat_tests}
 use Rattle.std.proofs.Math.Nat.{mul-le-mul_right}
-use Rattle.board_base.specs.declared.places.Cell.{Cell}
 use Rattle.cell_grid.specs.declared.frames.Frame.{Frame}
 use Rattle.cell_grid.specs.Grid.{Grid}
-use Rattle.cell_grid.specs.Place.{IsFrame, place_of}
+use Rattle.cell_grid.specs.Place.{IsFrame}
 use Rattle.centre_field.specs.Distances.{none, square_gap, IsLeast}
 use Rattle.centre_field.specs.Columns.{number_at}
 use Rattle.centre_field.specs.Rows.{value_at, has_distance, square_in, AreDistances, AreDistancesFrom, IsListing, IsLeastInRow, FinishesRow, AreLeastInRows}
 use Rattle.centre_field.proofs.ListingLaws.{leaving_out, nothing_listed}
-use Rattle.centre_field.proofs.WrittenLaws.{place_now}
 
 -- only scratch numbers changed, and they list the columns before b
 pub record IsListedTo (start : Grid) (frame : Frame) (y from : ℕ) (g : Grid) (n b : ℕ) : Type 0 where
@@ -32,10 +30,9 @@ none_listed start frame y from e v = record {
   listing = nothing_listed start y from start.scratch;
 }
 
--- what was read at a cell's place is the number in its column and row
-pub read_number : (f : Frame) (g : Grid) (c : Cell) (x y v : ℕ) → f ≡ g.frame → place_of f c ≡ y * f.width + x → v ≡ get_or g.clearances (place_of g.frame c) 0 → v ≡ number_at g x y
-read_number f g c x y v e place read =
-    read ∙ ap (λ (k : ℕ). get_or g.clearances k 0) (place_now f g.frame c (y * f.width + x) e place) ∙ ap (λ (h : Frame). get_or g.clearances (y * h.width + x) 0) e
+-- what was read at a place is the number in its column and row
+pub read_place : (f : Frame) (g : Grid) (k x y v : ℕ) → f ≡ g.frame → k ≡ y * f.width + x → v ≡ get_or g.clearances k 0 → v ≡ number_at g x y
+read_place f g k x y v e place read = read ∙ ap (λ (j : ℕ). get_or g.clearances j 0) place ∙ ap (λ (h : Frame). get_or g.clearances (y * h.width + x) 0) e
 
 pub frame_listed : (start g : Grid) (frame : Frame) (y from n b : ℕ) → IsListedTo start frame y from g n b → frame ≡ g.frame
 frame_listed start g frame y from n b p = p.same_frame ∙ sym (ap (λ (h : Grid). h.frame) p.rest)

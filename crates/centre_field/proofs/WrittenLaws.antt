@@ -43,6 +43,10 @@ pub written_at : (start g g' : Grid) (frame : Frame) (c : Cell) (n v : ℕ) → 
 written_at start g g' frame c n v e rest place written =
     written ∙ ap (λ (k : ℕ). record g { clearances = set g.clearances k v }) (place_now frame g.frame c n (frame_now start g frame e rest) place)
 
+-- and at a place
+pub written_place : (g g' : Grid) (k n v : ℕ) → k ≡ n → g' ≡ record g { clearances = set g.clearances k v } → g' ≡ record g { clearances = set g.clearances n v }
+written_place g g' k n v e written = written ∙ ap (λ (j : ℕ). record g { clearances = set g.clearances j v }) e
+
 -- one more place
 pub one_written : (Fact : ℕ → ℕ → Type 0) (start g g' : Grid) (frame : Frame) (n n' v : ℕ) → IsWrittenBelow Fact start frame g n → n < cells_of frame → n' ≡ n + 1
     → Fact n v → g' ≡ record g { clearances = set g.clearances n v } → IsWrittenBelow Fact start frame g' n'

@@ -2,7 +2,7 @@
 ghost use Rattle.std.specs.Prelude.{◌≡◌, ◌<◌, ◌≤◌, ◌+◌, ℕ, min};
 ghost use Rattle.centre_field.specs.Columns.{number_at, further as further_of, IsNearest, ChangesRow, AreUpward, AreNearest};
 
-use cell_grid::{Plane, Workbench, cell_at};
+use cell_grid::{Plane, Workbench, place_at};
 
 // One more than a distance; none where there is none.
 #[inline(always)]
@@ -26,13 +26,13 @@ fn upward(bench: &Workbench, x: u32, y: u32) -> u32
     ensures { IsNearest bench.now x y (y + 1) result }
 {
     let frame = bench.frame();
-    if bench.get(Plane::Kept, cell_at(frame, x, y)) {
+    if bench.is_at(Plane::Kept, place_at(frame, x, y)) {
         return 0;
     }
     if y == 0 {
         return u32::MAX;
     }
-    further(bench.clearance(cell_at(frame, x, y - 1)))
+    further(bench.clearance_at(place_at(frame, x, y - 1)))
 }
 
 // Stores for each cell the distance to the nearest kept cell of its column that is no farther north.
@@ -44,7 +44,7 @@ fn sweep_up(bench: &mut Workbench)
     'rows: for y in 0..frame.height {
         'cells: for x in 0..frame.width {
             let distance = upward(bench, x, y);
-            bench.set_clearance(cell_at(frame, x, y), distance);
+            bench.set_clearance_at(place_at(frame, x, y), distance);
         }
     }
 }
@@ -58,10 +58,10 @@ fn sweep_row_down(bench: &mut Workbench, y: u32)
 {
     let frame = bench.frame();
     'cells: for x in 0..frame.width {
-        let c = cell_at(frame, x, y);
-        let north = further(bench.clearance(cell_at(frame, x, y + 1)));
-        let distance = bench.clearance(c).min(north);
-        bench.set_clearance(c, distance);
+        let k = place_at(frame, x, y);
+        let north = further(bench.clearance_at(place_at(frame, x, y + 1)));
+        let distance = bench.clearance_at(k).min(north);
+        bench.set_clearance_at(k, distance);
     }
 }
 

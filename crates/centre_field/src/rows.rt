@@ -5,7 +5,7 @@ ghost use Rattle.centre_field.specs.Columns.{number_at};
 ghost use Rattle.centre_field.specs.Rows.{column_at, start_at, square_at, listed_at, IsShort, AreDistances, AreDistancesFrom, IsListing, IsLeastInRow, IsLeastInSpan, WritesSpan, FinishesRow, AreLeastInRows, start_from};
 
 use crate::gaps::square_gap;
-use cell_grid::{Workbench, cell_at};
+use cell_grid::{Workbench, place_at};
 
 // A column that has the nearest kept cell from `start` on, up to where the next listed column starts;
 // `square` is the squared distance along the column.
@@ -165,7 +165,7 @@ fn list_span(bench: &mut Workbench, y: u32, from: u32, to: u32) -> u32
     let frame = bench.frame();
     let mut n = 0;
     'columns: for b in from..to {
-        let distance = bench.clearance(cell_at(frame, b, y));
+        let distance = bench.clearance_at(place_at(frame, b, y));
         if distance != u32::MAX {
             n = enter(bench, y, from, n, b, distance);
         }
@@ -212,7 +212,7 @@ fn write_span(bench: &mut Workbench, y: u32, from: u32, to: u32, n: u32)
         k = nearest(bench, n, k, x);
         let column = listed(bench, k);
         let least = value(x, column.column, column.square) as u32;
-        bench.set_clearance(cell_at(frame, x, y), least);
+        bench.set_clearance_at(place_at(frame, x, y), least);
     }
 }
 
@@ -243,7 +243,7 @@ fn gap_start(bench: &Workbench, y: u32, from: u32) -> u32
 {
     let frame = bench.frame();
     'columns: for x in from..frame.width {
-        if bench.clearance(cell_at(frame, x, y)) != 0 {
+        if bench.clearance_at(place_at(frame, x, y)) != 0 {
             return x;
         }
     }
@@ -261,7 +261,7 @@ fn gap_end(bench: &Workbench, y: u32, from: u32) -> u32
 {
     let frame = bench.frame();
     'columns: for x in from..frame.width {
-        if bench.clearance(cell_at(frame, x, y)) == 0 {
+        if bench.clearance_at(place_at(frame, x, y)) == 0 {
             return x;
         }
     }

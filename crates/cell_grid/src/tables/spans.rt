@@ -128,6 +128,43 @@ impl Workbench {
         );
     }
 
+    /// Whether the cell at a place in the order of rows is in a plane.
+    #[inline(always)]
+    pub fn is_at(&self, plane: Plane, k: u32) -> bool
+        requires { k < cells_of self.now.frame }
+        ensures { result ≡ slice_index_or (plane_of self.now plane) k false }
+    {
+        has_bit(self.flags[k as usize], bit(plane))
+    }
+
+    /// Puts the cell at a place in the order of rows into a plane, or takes it out.
+    #[inline(always)]
+    pub fn set_at(&mut self, plane: Plane, k: u32, on: bool)
+        requires { k < cells_of self.old.frame }
+        ensures { self.new ≡ with_plane self.old plane (slice_set (plane_of self.old plane) k on) }
+    {
+        let n = with_bit(self.flags[k as usize], bit(plane), on);
+        self.flags[k as usize] = n;
+    }
+
+    /// The clearance at a place in the order of rows.
+    #[inline(always)]
+    pub fn clearance_at(&self, k: u32) -> u32
+        requires { k < cells_of self.now.frame }
+        ensures { result ≡ slice_index self.now.clearances k }
+    {
+        self.clearances[k as usize]
+    }
+
+    /// Writes the clearance at a place in the order of rows.
+    #[inline(always)]
+    pub fn set_clearance_at(&mut self, k: u32, v: u32)
+        requires { k < cells_of self.old.frame }
+        ensures { self.new ≡ record self.old { clearances = slice_set self.old.clearances k v } }
+    {
+        self.clearances[k as usize] = v;
+    }
+
     /// The working label at a place in the order of rows.
     #[inline(always)]
     pub fn work_at(&self, k: u32) -> u32

@@ -1,7 +1,7 @@
 use Rattle.std.proofs.Common.{◌≡◌, ◌*◌, ◌+◌, refl, arith}
 use Rattle.std.proofs.lemmas.Nat.{mul-add-lt}
 use Rattle.centre_field.proofs.ColumnLaws.{IsUpwardAt, south, to_place, nearest_before, all_upward}
-use Rattle.centre_field.proofs.WrittenLaws.{one_written, written_at, ends}
+use Rattle.centre_field.proofs.WrittenLaws.{one_written, written_place, ends}
 use Rattle.centre_field.proofs.columns.sweep_up.Goals as goal
 
 pub upward-distance-requires-clause-before : goal.upward-distance-requires-clause-before
@@ -17,10 +17,10 @@ cells-preserved c =
     let n = c.rows.y * f.width + c.cells.x in
     let v = c.upward-distance.result in
     let p = c.cells.invariant in
-    one_written (IsUpwardAt start f) start g c.set_clearance.new.self f n (c.rows.y * f.width + (c.cells.x + 1)) v p
+    one_written (IsUpwardAt start f) start g c.set_clearance_at.new.self f n (c.rows.y * f.width + (c.cells.x + 1)) v p
     (mul-add-lt c.rows.y f.width c.cells.x f.height c.rows-test.true c.cells-test.true) (omega arith)
     (to_place start f c.cells.x c.rows.y n v c.cells-test.true refl (nearest_before start g c.cells.x c.rows.y (c.rows.y + 1) v p.rest c.upward-distance.ensures))
-    (written_at start g c.set_clearance.new.self f c.cell_at.result n v p.same_frame p.rest c.cell_at.ensures.place c.set_clearance.ensures)
+    (written_place g c.set_clearance_at.new.self c.place_at.result n v c.place_at.ensures.value c.set_clearance_at.ensures)
 
 pub returns-clause-upward : goal.returns-clause-upward
 returns-clause-upward c =
