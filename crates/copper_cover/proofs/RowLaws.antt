@@ -24,7 +24,7 @@ pub record IsWritten (f : ℕ → Bool → Bool) (old now : List Bool) (n : ℕ)
 pub none_written : (f : ℕ → Bool → Bool) (old : List Bool) → IsWritten f old old 0
 none_written f old = record { done = λ j l. absurd (omega arith); rest = λ j l. refl }
 
-by_less : {P : Type 0} (a b : ℕ) → (a < b → P) → (b ≤ a → P) → P
+pub by_less : {P : Type 0} (a b : ℕ) → (a < b → P) → (b ≤ a → P) → P
 by_less a b f g = elim (leb_tells b a) [ inl t ↦ g t.1 | inr t ↦ f t.1 ]
 
 -- columns that stay as they are

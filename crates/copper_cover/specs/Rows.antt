@@ -1,10 +1,12 @@
 -- Rows of cells, and what becomes of a bit for each of them.
-use Rattle.std.specs.Prelude.{◌≡◌, ℕ, ◌<◌, ◌≤◌, ℤ, pos, ◌+ℤ◌, ◌-ℤ◌, ◌*ℤ◌, ◌≤ℤ◌, ◌<ℤ◌, int_lt, unsigned_abs, Bool, false, not, cond, ◌&&◌, ◌||◌, length}
+use Rattle.std.specs.Prelude.{◌≡◌, ℕ, ◌<◌, ◌≤◌, ℤ, pos, ◌+ℤ◌, ◌-ℤ◌, ◌*ℤ◌, ◌≤ℤ◌, ◌<ℤ◌, int_lt, nat_le, nat_lt, unsigned_abs, Bool, false, not, cond, ◌&&◌, ◌||◌, length}
 use Rattle.board_base.specs.declared.places.Cell.{Cell}
 use Rattle.board_base.specs.declared.places.Point.{Point}
 use Rattle.board_base.specs.Places.{IsNearPlace}
+use Rattle.board_base.specs.Near.{near_of}
 use Rattle.board_base.specs.Lattice.{IsPitch, centre_of, middle, east_by}
 use Rattle.cell_grid.specs.Rows.{Rows}
+use Rattle.cell_grid.specs.declared.windows.Span.{Span}
 use Rattle.copper_cover.specs.declared.columns.Row.{Row}
 
 -- the cell k columns east of a cell
@@ -14,6 +16,14 @@ east_of c k = east_by c k
 -- the centre of cell k of a row, counted from 0
 abbrev pub centre_in : Row → ℕ → Point
 centre_in row k = centre_of row.pitch (east_of row.first k)
+
+-- whether the centre of cell k of a row is near a segment
+abbrev pub is_near_in : Row → Point → Point → ℤ → ℕ → Bool
+is_near_in row a b d k = near_of (centre_in row k) a b d
+
+-- whether a number is of the span
+abbrev pub is_in_span : Span → ℕ → Bool
+is_in_span s k = nat_le s.from k && nat_lt k s.to
 
 -- a height is more than half of d above the row y
 unfoldable pub is_over : ℤ → ℤ → ℤ → Bool

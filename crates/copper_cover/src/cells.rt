@@ -34,13 +34,7 @@ pub(crate) fn clear(bench: &mut Workbench)
     ensures rest { bench.new ≡ record bench.old { kept = (bench.new).kept } }
     ensures kept { (c : Cell) → InFrame (bench.old).frame c → in_plane (bench.old).frame (bench.new).kept c ≡ false }
 {
-    let frame = bench.frame();
-    'rows: for y in 0..frame.height {
-        'cells: for x in 0..frame.width {
-            let c = cell_at(frame, x, y);
-            bench.set(Plane::Kept, c, false);
-        }
-    }
+    bench.clear(Plane::Kept);
 }
 
 // Paints an object over the cells of a window, outside which it touches none.

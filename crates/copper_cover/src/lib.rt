@@ -10,6 +10,7 @@ mod cells;
 mod columns;
 mod objects;
 mod rows;
+mod runs;
 mod segments;
 mod sweeps;
 

@@ -1,16 +1,17 @@
 // What a disc or a capsule, as a segment of some width, makes of the bits of a row. Lengths are in
 // nanometres.
-ghost use Rattle.std.specs.Prelude.{◌≡◌, ℕ, ℤ, pos, ◌≤ℤ◌, ◌<ℤ◌, ◌<◌, false, int_lt, length, slice_index_or};
+ghost use Rattle.std.specs.Prelude.{◌≡◌, ℕ, ℤ, pos, ◌≤ℤ◌, ◌<ℤ◌, ◌<◌, ◌≤◌, false, int_lt, length, slice_index_or};
 ghost use Rattle.board_base.specs.Lattice.{IsCellReach};
 ghost use Rattle.board_base.specs.Places.{IsNearPlace};
 ghost use Rattle.shape_parts.specs.declared.shape.Part.TheVariants.{Capsule};
 ghost use Rattle.shape_parts.specs.Parts.{IsWidth, grown, shrunk, twice, part_touches, part_covers};
-ghost use Rattle.copper_cover.specs.Rows.{IsRow, centre_in, bit_after as bit_after_of};
+ghost use Rattle.copper_cover.specs.Rows.{IsRow, centre_in, is_in_span, bit_after as bit_after_of};
 
-use crate::columns::{Row, centre_at, columns_near, misses_row};
-use crate::rows::{bit_after, double};
+use crate::columns::{Row, misses_row};
+use crate::rows::double;
+use crate::runs::{columns_at, mark};
 use board_base::Point;
-use plane_geom::near;
+use cell_grid::Span;
 
 // Whether the first is below the second.
 fn is_below(a: i64, b: i64) -> bool
@@ -44,39 +45,41 @@ fn narrower(d: i64, h: i64) -> i64
     d - 2 * h
 }
 
-// Whether a segment of the width `d` touches the cell round `q`.
-fn segment_touches(q: Point, h: i64, a: Point, b: Point, d: i64) -> bool
-    requires q { IsNearPlace q }
+// The columns of a row of `n` cells that a segment of the width `d` touches.
+fn touched_columns(row: Row, n: u32, a: Point, b: Point, d: i64) -> Span
+    requires row { IsRow row n }
     requires a { IsNearPlace a }
     requires b { IsNearPlace b }
     requires d { IsWidth d }
-    requires reach { IsCellReach h }
-    ensures { result ≡ part_touches q h (Capsule a b d) }
+    ensures holds { (k : ℕ) → k < n → part_touches (centre_in row k) row.h (Capsule a b d) ≡ is_in_span result k }
+    ensures from { result.from ≤ n }
+    ensures to { result.to ≤ n }
 {
     if is_below(0, d) {
-        near(q, a, b, wider(d, h))
+        columns_at(row, n, a, b, wider(d, row.h))
     } else {
-        false
+        Span { from: 0, to: 0 }
     }
 }
 
-// Whether a segment of the width `d` covers the cell round `q`.
-fn segment_covers(q: Point, h: i64, a: Point, b: Point, d: i64) -> bool
-    requires q { IsNearPlace q }
+// The columns of a row of `n` cells that a segment of the width `d` covers.
+fn covered_columns(row: Row, n: u32, a: Point, b: Point, d: i64) -> Span
+    requires row { IsRow row n }
     requires a { IsNearPlace a }
     requires b { IsNearPlace b }
     requires d { IsWidth d }
-    requires reach { IsCellReach h }
-    ensures { result ≡ part_covers q h (Capsule a b d) }
+    ensures holds { (k : ℕ) → k < n → part_covers (centre_in row k) row.h (Capsule a b d) ≡ is_in_span result k }
+    ensures from { result.from ≤ n }
+    ensures to { result.to ≤ n }
 {
-    if is_below(double(h), d) {
-        near(q, a, b, narrower(d, h))
+    if is_below(double(row.h), d) {
+        columns_at(row, n, a, b, narrower(d, row.h))
     } else {
-        false
+        Span { from: 0, to: 0 }
     }
 }
 
-// What a segment makes of the bits, of which it changes only those whose centres are near it.
+// What a segment makes of the bits: of those of a run of columns that it touches, and of one that it covers.
 fn step_segment(
     touched: &mut [bool],
     covered: &mut [bool],
@@ -99,13 +102,14 @@ fn step_segment(
         ≡ bit_after_of on (part_covers (centre_in row k) row.h (Capsule a b d)) (part_touches (centre_in row k) row.h (Capsule a b d)) (slice_index_or covered.old k false) }
 {
     let n = touched.len() as u32;
-    let columns = columns_near(a, b, wider(d, row.h), row, n);
-    'columns: for k in columns.from..columns.to {
-        let q = centre_at(row, k, n);
-        let touches = segment_touches(q, row.h, a, b, d);
-        let covers = segment_covers(q, row.h, a, b, d);
-        touched[k as usize] = bit_after(on, touches, covers, touched[k as usize]);
-        covered[k as usize] = bit_after(on, covers, touches, covered[k as usize]);
+    let touches = touched_columns(row, n, a, b, d);
+    let covers = covered_columns(row, n, a, b, d);
+    if on {
+        mark(touched, touches, true);
+        mark(covered, covers, true);
+    } else {
+        mark(touched, covers, false);
+        mark(covered, touches, false);
     }
 }
 
