@@ -1,23 +1,16 @@
 -- The test of a clearing row is what its definition says.
-use Rattle.std.proofs.Common.{◌≡◌, ◌≢◌, ◌⊎◌, inl, inr, ℕ, ◌<◌, ◌≤◌, ◌+◌, ◌*◌, ◌/◌, ◌%◌, ◌==◌, int_le, ℤ, pos, negsuc, ◌+ℤ◌, ◌-ℤ◌, ◌≤ℤ◌, ◌<ℤ◌, unsigned_abs, Bool, true, false, cond, not, ◌&&◌, ◌||◌, ◌↔◌, List, length, get_or, set, take, slice_index, nat_lt, count_by, refl, sym, ap, subst, ◌∙◌, arith, get_or-set_other, get_or-set_same}
-use Rattle.std.proofs.lemmas.List.{length-set, take-set-le}
-use Rattle.std.proofs.Math.Nat.{add-zero, div-add-mod', mul-mod_left}
-use Rattle.std.proofs.lemmas.List.Sums.{count_by_more_yes, count_by_more_no}
-use Rattle.std.proofs.lemmas.Bool.{cases_eq, false≢true, eq-eqb, eqb-true}
-use Rattle.std.proofs.lemmas.Int.{by_lt_z}
+use Rattle.std.proofs.Common.{◌≡◌, inl, inr, ℕ, ◌+◌, ◌*◌, ◌/◌, ◌%◌, ◌==◌, int_le, ℤ, pos, ◌+ℤ◌, ◌-ℤ◌, ◌≤ℤ◌, unsigned_abs, Bool, true, ◌&&◌, ◌||◌, ◌↔◌, sym, ap, ◌∙◌, arith}
+use Rattle.std.proofs.Math.Nat.{div-add-mod', mul-mod_left}
+use Rattle.std.proofs.lemmas.Bool.{false≢true, eq-eqb, eqb-true}
 use borrow.Author.Differences.{ints}
-use Rattle.number_laws.proofs.Tests.{by_bool, both, first_of, second_of, left_true, right_true, either, not_true, to_le, of_le}
+use Rattle.number_laws.proofs.Tests.{by_bool, both, first_of, second_of, left_true, right_true, either, to_le, of_le}
 use Rattle.board_base.specs.declared.places.Cell.{Cell}
-use Rattle.board_base.specs.Lattice.{IsBeside}
 use Rattle.cell_grid.specs.declared.frames.Frame.{Frame}
-use Rattle.cell_grid.specs.Grid.{Grid, IsSized}
-use Rattle.cell_grid.specs.Place.{IsFrame, InFrame, IsBetween, place_of, column_of, row_of, cells_of}
-use Rattle.cell_grid.specs.Cells.{in_frame, in_plane, is_above, IsOnBorder}
-use Rattle.cell_grid.proofs.PlaceLaws.{place_below, before_next}
-use Rattle.cell_grid.proofs.CellsLaws.{in_frame_is, in_frame_true, in_frame_false, border_of}
+use Rattle.cell_grid.specs.Grid.{Grid}
+use Rattle.cell_grid.specs.Place.{cells_of}
+use Rattle.cell_grid.specs.Cells.{in_frame, in_plane}
 use Rattle.board_base.specs.declared.places.CellBox.{CellBox}
 use Rattle.cell_sets.specs.Cleared.{IsOnClearingRow}
-use Rattle.contours.specs.Contour.{leaves_column, added_to, moved, IsContourOf}
 use Rattle.contours.specs.Rows.{is_cleared_row, is_cleared_column, is_cleared}
 use Rattle.contours.proofs.Traces.{IsTraced, in_plane_out, plane_is}
 

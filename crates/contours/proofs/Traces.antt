@@ -1,24 +1,18 @@
 -- The cells before one in the order of rows are tested, and Pass and Visited have those that passed.
-use Rattle.std.proofs.Common.{◌≡◌, ◌≢◌, ◌⊎◌, inl, inr, ℕ, ◌<◌, ◌≤◌, ◌+◌, ◌*◌, ◌/◌, ◌%◌, ◌==◌, int_le, ℤ, pos, negsuc, ◌+ℤ◌, ◌-ℤ◌, ◌≤ℤ◌, ◌<ℤ◌, unsigned_abs, Bool, true, false, cond, not, ◌&&◌, ◌||◌, ◌↔◌, List, length, get_or, set, take, slice_index, nat_lt, count_by, refl, sym, ap, subst, ◌∙◌, arith, get_or-set_other, get_or-set_same}
+use Rattle.std.proofs.Common.{◌≡◌, ◌≢◌, ◌⊎◌, inl, inr, ℕ, zero, suc, ◌<◌, ◌≤◌, ◌+◌, ◌-◌, ◌*◌, ℤ, pos, ◌+ℤ◌, ◌-ℤ◌, unsigned_abs, Bool, true, false, cond, ◌||◌, List, length, replicate, get_or, set, take, count_by, refl, sym, ap, subst, ◌∙◌, arith, get_or-set_other, get_or-set_same}
 use Rattle.std.proofs.lemmas.List.{length-set, take-set-le}
-use Rattle.std.proofs.Math.Nat.{add-zero, div-add-mod', mul-mod_left}
+use Rattle.std.proofs.Math.Nat.{add-zero}
 use Rattle.std.proofs.lemmas.List.Sums.{count_by_more_yes, count_by_more_no}
-use Rattle.std.proofs.lemmas.Bool.{cases_eq, false≢true, eq-eqb, eqb-true}
-use Rattle.std.proofs.lemmas.Int.{by_lt_z}
+use Rattle.std.proofs.lemmas.Bool.{cases_eq}
 use borrow.Author.Differences.{ints}
-use Rattle.number_laws.proofs.Tests.{by_bool, both, first_of, second_of, left_true, right_true, either, not_true, to_le, of_le}
 use Rattle.board_base.specs.declared.places.Cell.{Cell}
-use Rattle.board_base.specs.Lattice.{IsBeside}
 use Rattle.cell_grid.specs.declared.frames.Frame.{Frame}
 use Rattle.cell_grid.specs.Grid.{Grid, IsSized}
-use Rattle.cell_grid.specs.Place.{IsFrame, InFrame, IsBetween, place_of, column_of, row_of, cells_of}
-use Rattle.cell_grid.specs.Cells.{in_frame, in_plane, is_above, IsOnBorder}
+use Rattle.cell_grid.specs.Place.{IsFrame, InFrame, IsBetween, place_of, cells_of}
+use Rattle.cell_grid.specs.Cells.{in_frame, in_plane, is_above}
 use Rattle.cell_grid.proofs.PlaceLaws.{place_below, before_next}
-use Rattle.cell_grid.proofs.CellsLaws.{in_frame_is, in_frame_true, in_frame_false, border_of}
-use Rattle.board_base.specs.declared.places.CellBox.{CellBox}
-use Rattle.cell_sets.specs.Cleared.{IsOnClearingRow}
-use Rattle.contours.specs.Contour.{leaves_column, added_to, moved, IsContourOf}
-use Rattle.contours.specs.Rows.{is_cleared_row, is_cleared_column, is_cleared}
+use Rattle.cell_grid.proofs.CellsLaws.{in_frame_is}
+use Rattle.contours.specs.Contour.{on_contour, cell_in, is_on, added_to}
 
 -- of the cells before place n those that pass the test are in Pass, and Visited has them too
 pub record IsTraced (start : Grid) (frame : Frame) (test : Cell → Bool) (g : Grid) (size n : ℕ) : Type 0 where
@@ -139,3 +133,118 @@ pub plane_is : (start g : Grid) (frame : Frame) (test : Cell → Bool) (size n :
 plane_is start g frame test size n p e c i =
     let h : InFrame frame c = subst (λ (f : Frame). InFrame f c) (sym p.same_frame) (in_frame_is start.frame c i) in
     in_plane_in start.frame g.pass c i ∙ ap (λ (f : Frame). get_or g.pass (place_of f c) false) (sym p.same_frame) ∙ p.pass c h (omega (arith, e, place_below frame c h))
+
+-- ---- cells that Pass hasn't, and that don't pass the test
+
+-- Pass has no place from n on
+abbrev pub IsBlankFrom : Grid → ℕ → Type 0
+IsBlankFrom g n = (k : ℕ) → n ≤ k → get_or g.pass k false ≡ false
+
+none_more : (xs : List Bool) (n : ℕ) → n < length xs → get_or xs n false ≡ false → count_by (λ p. p) (take (n + 1) xs) ≡ count_by (λ p. p) (take n xs)
+none_more xs n h e = count_by_more_no (λ (p : Bool). p) xs n false h e
+
+-- one cell that isn't
+skip_one : (start g : Grid) (frame : Frame) (test : Cell → Bool) (size n n' : ℕ) (d : Cell) → IsTraced start frame test g size n → IsBlankFrom g n → InFrame frame d → place_of frame d ≡ n → n' ≡ n + 1 → test d ≡ false → IsTraced start frame test g size n'
+skip_one start g frame test size n n' d p blank d_in d_at next off =
+    subst (λ (m : ℕ). IsTraced start frame test g size m) (sym next) (record {
+      rest = p.rest;
+      same_frame = p.same_frame;
+      valid = p.valid;
+      pass_len = p.pass_len;
+      visited_len = p.visited_len;
+      pass = λ c h l.
+          elim (before_next frame c d n h d_in d_at l) as (λ _. get_or g.pass (place_of frame c) false ≡ test c) [
+            | inl less ↦ p.pass c h less
+            | inr same ↦ ap (λ (x : Cell). get_or g.pass (place_of frame x) false) same ∙ blank (place_of frame d) (omega (arith, d_at)) ∙ sym off ∙ ap test (sym same)
+          ];
+      visited = λ k l.
+          elim (number_before k n l) as (λ _. get_or g.visited k false ≡ (get_or start.visited k false || get_or g.pass k false)) [
+            | inl less ↦ p.visited k less
+            | inr same ↦ p.later k (omega arith) ∙ or_false (get_or start.visited k false) ∙ ap (λ (b : Bool). get_or start.visited k false || b) (sym (blank k (omega arith)))
+          ];
+      later = λ k h. p.later k (omega arith);
+      count = p.count ∙ sym (none_more g.pass n n_in (blank n (omega arith)));
+      small = weaker p.small;
+    })
+  where
+    n_in : n < length g.pass
+    n_in = omega (arith, p.pass_len, place_below frame d d_in, d_at)
+
+    weaker : {s m : ℕ} → s ≤ m → s ≤ m + 1
+    weaker h = omega arith
+
+pub in_row : (f : Frame) (x y : ℕ) → x < f.width → y < f.height → InFrame f (cell_in f x y)
+in_row f x y xl yl = record { column = between f.i0 x f.width xl; row = between f.j0 y f.height yl }
+  where
+    between : (a : ℤ) (n c : ℕ) → n < c → IsBetween (a +ℤ pos n) a c
+    between a n c h = record { low = omega (arith, ints); high = omega (arith, ints) }
+
+pub place_in_row : (f : Frame) (x y : ℕ) → place_of f (cell_in f x y) ≡ y * f.width + x
+unfolding place_of
+place_in_row f x y = ap (λ (r : ℕ). r * f.width + unsigned_abs ((f.i0 +ℤ pos x) -ℤ f.i0)) (by f.j0 y) ∙ ap (λ (k : ℕ). y * f.width + k) (by f.i0 x)
+  where
+    by : (a : ℤ) (n : ℕ) → unsigned_abs ((a +ℤ pos n) -ℤ a) ≡ n
+    by a n = omega (arith, ints)
+
+-- so many columns of a row
+pub skip_columns : (start g : Grid) (frame : Frame) (test : Cell → Bool) (size x y k : ℕ) → IsTraced start frame test g size (y * frame.width + x) → IsBlankFrom g (y * frame.width + x) → y < frame.height → x + k ≤ frame.width
+    → ((j : ℕ) → x ≤ j → j < x + k → test (cell_in frame j y) ≡ false) → IsTraced start frame test g size (y * frame.width + (x + k))
+skip_columns start g frame test size x y zero p blank yl xl off = subst (λ (m : ℕ). IsTraced start frame test g size (y * frame.width + m)) (sym (add-zero x)) p
+skip_columns start g frame test size x y (suc k) p blank yl xl off =
+    skip_one start g frame test size (y * frame.width + (x + k)) (y * frame.width + (x + suc k)) (cell_in frame (x + k) y)
+    (skip_columns start g frame test size x y k p blank yl (omega arith) (λ j l h. off j l (omega arith))) (λ j h. blank j (omega arith)) (in_row frame (x + k) y (omega arith) yl) (place_in_row frame (x + k) y) (omega arith)
+    (off (x + k) (omega arith) (omega arith))
+
+-- as far as a column
+pub skip_to : (start g : Grid) (frame : Frame) (test : Cell → Bool) (size x y e : ℕ) → IsTraced start frame test g size (y * frame.width + x) → IsBlankFrom g (y * frame.width + x) → y < frame.height → x ≤ e → e ≤ frame.width
+    → ((j : ℕ) → x ≤ j → j < e → test (cell_in frame j y) ≡ false) → IsTraced start frame test g size (y * frame.width + e)
+skip_to start g frame test size x y e p blank yl low high off =
+    subst (λ (m : ℕ). IsTraced start frame test g size (y * frame.width + m)) (rest x e low)
+    (skip_columns start g frame test size x y (e - x) p blank yl (omega arith) (λ j l h. off j l (omega arith)))
+  where
+    rest : (x e : ℕ) → x ≤ e → x + (e - x) ≡ e
+    rest x e h = omega arith
+
+-- Pass with one place more is as blank past that one
+pub blank_past : (g g' : Grid) (n : ℕ) (on : Bool) (v : List Bool) → IsBlankFrom g n → g' ≡ record g { pass = set g.pass n on; visited = v } → IsBlankFrom g' (n + 1)
+blank_past g g' n on v blank e k h = ap (λ (x : Grid). get_or x.pass k false) e ∙ get_or-set_other g.pass n k on false (apart k n h) ∙ blank k (omega arith)
+  where
+    apart : (k n : ℕ) → n + 1 ≤ k → k ≢ n
+    apart k n h = omega arith
+
+-- a plane that is off is blank
+pub blank_all : (g : Grid) (n : ℕ) → g.pass ≡ replicate n false → IsBlankFrom g 0
+blank_all g n e k h = ap (λ (xs : List Bool). get_or xs k false) e ∙ off n k
+  where
+    off : (n k : ℕ) → get_or (replicate n false) k false ≡ false
+    off zero k = refl
+    off (suc n) zero = refl
+    off (suc n) (suc k) = off n k
+
+-- ---- the next cell on a contour
+
+-- the cells of row y before column x are traced, and the one there is on the contour
+pub record IsFound (start : Grid) (frame : Frame) (limit : ℕ) (g : Grid) (size y x : ℕ) : Type 0 where
+  pub traced : IsTraced start frame (on_contour (is_above start.frame start.clearances limit)) g size (y * frame.width + x)
+  pub blank : IsBlankFrom g (y * frame.width + x)
+  pub most : x ≤ frame.width
+  pub on : x < frame.width → on_contour (is_above start.frame start.clearances limit) (cell_in frame x y) ≡ true
+
+-- from column x on, where the columns before e aren't on it
+pub found_row : (start g : Grid) (frame : Frame) (limit size x y e : ℕ) → IsTraced start frame (on_contour (is_above start.frame start.clearances limit)) g size (y * frame.width + x) → IsBlankFrom g (y * frame.width + x)
+    → y < frame.height → x ≤ e → e ≤ g.frame.width → ((j : ℕ) → x ≤ j → j < e → is_on g limit j y ≡ false) → (e < g.frame.width → is_on g limit e y ≡ true) → IsFound start frame limit g size y e
+found_row start g frame limit size x y e p blank yl low high passed found =
+    let M = is_above start.frame start.clearances limit in
+    let same_frame : g.frame ≡ frame = ap (λ (h : Grid). h.frame) p.rest ∙ sym p.same_frame in
+    let same : (j : ℕ) → is_on g limit j y ≡ on_contour M (cell_in frame j y) =
+    λ j. ap (λ (h : Grid). is_on h limit j y) p.rest ∙ ap (λ (f : Frame). on_contour M (cell_in f j y)) (sym p.same_frame) in
+    let most = subst (λ (f : Frame). e ≤ f.width) same_frame high in
+    record {
+      traced = skip_to start g frame (on_contour M) size x y e p blank yl low most (λ j l h. sym (same j) ∙ passed j l h);
+      blank = λ k h. blank k (further (y * frame.width) x e k low h);
+      most = most;
+      on = λ h. sym (same e) ∙ found (subst (λ (f : Frame). e < f.width) (sym same_frame) h);
+    }
+  where
+    further : (r x e k : ℕ) → x ≤ e → r + e ≤ k → r + x ≤ k
+    further r x e k h l = omega arith

@@ -1,5 +1,5 @@
 // The cells round a cell, and what is written of one.
-ghost use Rattle.std.specs.Prelude.{◌≡◌, pos, ◌+ℤ◌, ◌-ℤ◌, ◌≤ℤ◌, negsuc, ◌<◌, cond, slice_set};
+ghost use Rattle.std.specs.Prelude.{◌≡◌, pos, ◌+ℤ◌, ◌-ℤ◌, ◌≤ℤ◌, negsuc, ◌<◌, ◌≤◌, cond, slice_set};
 ghost use Rattle.cell_grid.specs.Place.{IsFrame, InFrame, place_of};
 ghost use Rattle.contours.specs.Contour.{IsInner, added_to, moved as moved_of};
 
@@ -30,16 +30,17 @@ pub(crate) fn east_of(c: Cell) -> Cell
     Cell { i: c.i + 1, j: c.j }
 }
 
-// The cell west of a row of the frame.
-pub(crate) fn west_end(frame: Frame, y: u32) -> Cell
+// The cell west of the one in column `x` and row `y` of the frame.
+pub(crate) fn west_of(frame: Frame, x: u32, y: u32) -> Cell
     requires frame { IsFrame frame }
+    requires x { x ≤ frame.width }
     requires y { y < frame.height }
-    ensures column { result.i ≡ frame.i0 -ℤ pos 1 }
+    ensures column { result.i ≡ (frame.i0 +ℤ pos x) -ℤ pos 1 }
     ensures row { result.j ≡ frame.j0 +ℤ pos y }
     ensures inner { IsInner 1000000001 result }
 {
     Cell {
-        i: frame.i0 - 1,
+        i: frame.i0 + x as i32 - 1,
         j: frame.j0 + y as i32,
     }
 }

@@ -6,7 +6,7 @@ ghost use Rattle.cell_grid.specs.Cells.{in_plane};
 ghost use Rattle.cell_sets.specs.Cleared.{IsOnClearingRow};
 ghost use Rattle.contours.specs.Rows.{is_cleared_row as is_cleared_row_of, is_cleared_column};
 
-use crate::cells::{trace, west_end};
+use crate::cells::{trace, west_of};
 use board_base::{Cell, CellBox};
 use cell_grid::{Plane, Workbench, cell_at};
 
@@ -47,7 +47,7 @@ pub fn rows(bench: &mut Workbench, stride: u32, inner: CellBox) -> u64
     let frame = bench.frame();
     let mut count = 0;
     'rows: for y in 0..frame.height {
-        let cleared = is_cleared_row(inner, stride, west_end(frame, y));
+        let cleared = is_cleared_row(inner, stride, west_of(frame, 0, y));
         'cells: for x in 0..frame.width {
             let c = cell_at(frame, x, y);
             let on = is_cleared(bench, inner, c, cleared);

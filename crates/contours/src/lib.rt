@@ -5,6 +5,7 @@
 
 mod cells;
 mod cleared;
+mod quiet;
 mod traced;
 
 pub use cleared::rows;

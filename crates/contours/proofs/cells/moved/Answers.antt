@@ -1,4 +1,4 @@
-use Rattle.std.proofs.Common.{◌≡◌, ℤ, ◌+ℤ◌, arith}
+use Rattle.std.proofs.Common.{◌+ℤ◌, arith}
 use borrow.Author.Differences.{ints}
 use Rattle.board_base.proofs.LatticeLaws.{same_cell}
 use Rattle.contours.specs.Contour.{moved}

@@ -10,7 +10,7 @@ use Rattle.contours.proofs.RowLaws.{row_is, same_allowed, all_cleared}
 use Rattle.contours.proofs.cleared.rows.Goals as goal
 
 pub cells-init : goal.cells-init
-cells-init c = (zero_more _ _ _ _ _ _ c.rows.invariant, c.is_cleared_row-cleared.ensures ∙ ap (is_cleared_row c.args.stride c.args.inner) c.west_end.ensures.row)
+cells-init c = (zero_more _ _ _ _ _ _ c.rows.invariant, c.is_cleared_row-cleared.ensures ∙ ap (is_cleared_row c.args.stride c.args.inner) c.west_of.ensures.row)
 
 pub cells-preserved : goal.cells-preserved
 cells-preserved c =
