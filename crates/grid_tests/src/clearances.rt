@@ -106,6 +106,18 @@ fn frames_may_be_narrow_empty_or_full(rt: HostRuntime) {
 }
 
 #[test]
+fn rows_are_cut_at_kept_cells(rt: HostRuntime) {
+    let gaps = [(0, 0), (3, 0), (4, 0), (8, 0)];
+    let expected = [0, 1, 1, 0, 0, 1, 4, 1, 0];
+    assert_eq!(rt; agree(rt.alloc(), 9, 1, &gaps, &expected), Ok(true));
+
+    // Gaps at both ends, and a cell of the other row within one.
+    let open = [(1, 0), (2, 0), (5, 0), (3, 1)];
+    let expected = [1, 0, 0, 1, 1, 0, 1, 2, 1, 1, 0, 1, 1, 2];
+    assert_eq!(rt; agree(rt.alloc(), 7, 2, &open, &expected), Ok(true));
+}
+
+#[test]
 fn centres_are_allowed_above_a_clearance(rt: HostRuntime) {
     let Ok(mut bench) = kept_at(rt.alloc(), 4, 3, &[(0, 0), (3, 2)]) else {
         panic!(rt; "no memory");

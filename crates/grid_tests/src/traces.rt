@@ -160,3 +160,29 @@ fn contours_round_one_cell(rt: HostRuntime) {
     assert_eq!(rt; in_row(&bench, Plane::Pass, 2), 4);
     assert_eq!(rt; in_row(&bench, Plane::Visited, 1), 5);
 }
+
+// The size of the contour round one cell alone, in a frame of several blocks of columns.
+fn size_round(alloc: Global, x: u32) -> Option<u64>
+    requires west { 0 < x }
+    requires east { x < 39 }
+{
+    let frame = Frame {
+        pitch: 2000,
+        i0: -3,
+        j0: 5,
+        width: 40,
+        height: 5,
+    };
+    let Ok(mut bench) = Workbench::reserve(alloc, frame) else {
+        return None;
+    };
+    lower(&mut bench, x, 2, 0);
+    Some(size_above(&mut bench, 0))
+}
+
+#[test]
+fn contours_at_the_ends_of_blocks(rt: HostRuntime) {
+    for x in 1..39 {
+        assert_eq!(rt; size_round(rt.alloc(), x), Some(8), "column {x}");
+    }
+}

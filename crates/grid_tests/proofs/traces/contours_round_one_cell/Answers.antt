@@ -1,18 +1,9 @@
-use Rattle.std.proofs.Common.{◌≡◌, ℕ, true, cond, nat_lt, sym, ap, subst, ◌∙◌}
-use Rattle.std.proofs.lemmas.List.{get_or-replicate}
+use Rattle.std.proofs.Common.{◌≡◌, true, sym, subst}
 use Rattle.board_base.specs.declared.places.Cell.{Cell}
-use Rattle.cell_grid.specs.declared.frames.Frame.{Frame}
-use Rattle.cell_grid.specs.Grid.{Grid, blank_of}
-use Rattle.cell_grid.specs.Place.{place_of, cells_of}
-use Rattle.cell_grid.specs.Cells.{in_frame, is_above, IsOnBorder}
-use Rattle.cell_grid.proofs.PlaceLaws.{place_below}
-use Rattle.cell_grid.proofs.CellsLaws.{in_frame_is}
+use Rattle.cell_grid.specs.Grid.{Grid}
+use Rattle.cell_grid.specs.Cells.{is_above, IsOnBorder}
+use Rattle.grid_tests.proofs.Blank.{blank_above}
 use Rattle.grid_tests.proofs.traces.contours_round_one_cell.Goals as goal
-
-blank_above : (f : Frame) (c : Cell) → IsOnBorder f c → is_above f (blank_of f).clearances 8 c ≡ true
-blank_above f c b =
-    ap (λ (n : ℕ). cond (in_frame f c) (nat_lt 8 n) true) (get_or-replicate (cells_of f) (place_of f c) 4294967295 0 (place_below f c (in_frame_is f c b.inside)))
-    ∙ ap (λ t. cond t true true) b.inside
 
 pub size_above-requires-clause-border : goal.size_above-requires-clause-border
 size_above-requires-clause-border g c =
