@@ -3,6 +3,7 @@ ghost use Rattle.std.specs.Prelude.{◌≡◌};
 
 use crate::borders::is_border_above;
 use cell_grid::{Plane, Workbench, cell_at};
+use std::alloc::Global;
 
 // The squared index distance above which a cell is allowed.
 const GUARD: u64 = 100;
@@ -22,10 +23,11 @@ pub enum Call {
     Contour,
     Sweep,
     Relabel,
+    Groups,
 }
 
 /// All of them, in the order in which they run: the later ones go by what the earlier ones wrote.
-pub const CALLS: [Call; 12] = [
+pub const CALLS: [Call; 13] = [
     Call::Set,
     Call::Get,
     Call::SetClearance,
@@ -38,6 +40,7 @@ pub const CALLS: [Call; 12] = [
     Call::Contour,
     Call::Sweep,
     Call::Relabel,
+    Call::Groups,
 ];
 
 impl Call {
@@ -56,12 +59,13 @@ impl Call {
             Call::Contour => "contour",
             Call::Sweep => "sweep",
             Call::Relabel => "relabel",
+            Call::Groups => "relabel, groups",
         }
     }
 
-    /// Runs it over the grid. Gives the sum of what it read, the number of islands or the size of the contour, and 0
-    /// where it tells no number.
-    pub fn run(self, bench: &mut Workbench) -> u64 {
+    /// Runs it over the grid. Gives the sum of what it read, the number of islands or of groups or the size of the
+    /// contour, and 0 where it tells no number.
+    pub fn run(self, alloc: Global, bench: &mut Workbench) -> u64 {
         match self {
             Call::Set => set_all(bench),
             Call::Get => get_all(bench),
@@ -75,6 +79,7 @@ impl Call {
             Call::Contour => trace(bench),
             Call::Sweep => sweep(bench),
             Call::Relabel => relabel(bench),
+            Call::Groups => join(alloc, bench),
         }
     }
 }
@@ -186,4 +191,13 @@ fn sweep(bench: &mut Workbench) -> u64 {
 fn relabel(bench: &mut Workbench) -> u64 {
     separation_check::relabel(bench);
     0
+}
+
+// Numbers the classes again and finds the groups, and gives their count.
+fn join(alloc: Global, bench: &mut Workbench) -> u64 {
+    separation_check::relabel(bench);
+    match separation_check::groups(alloc, bench) {
+        Ok(groups) => groups.len() as u64,
+        Err(_) => 0,
+    }
 }

@@ -37,12 +37,17 @@ fn asks_for_times<R: Env>(rt: &R) -> bool {
 }
 
 // The least time of some runs of a call over the whole grid, in nanoseconds, and what the last run gave.
-fn least_time<R: CpuClock>(rt: &R, call: Call, bench: &mut Workbench) -> io::Result<(u128, u64)> {
+fn least_time<R: CpuClock>(
+    rt: &R,
+    alloc: Global,
+    call: Call,
+    bench: &mut Workbench,
+) -> io::Result<(u128, u64)> {
     let mut least = u128::MAX;
     let mut sum = 0;
     for _ in 0..RUNS {
         let start = rt.thread_cpu_time()?;
-        sum = call.run(bench);
+        sum = call.run(alloc, bench);
         let time = rt.thread_cpu_time()?.saturating_sub(start);
         least = least.min(time.as_nanos());
     }
@@ -80,9 +85,18 @@ fn cover_time<R: CpuClock>(
             let time = rt.thread_cpu_time()?.saturating_sub(start);
             least = least.min(time.as_nanos());
         }
-        count = Call::Get.run(&mut bench);
+        count = Call::Get.run(alloc, &mut bench);
     }
     Ok((least, count))
+}
+
+// Makes the cells of the pour the kept ones.
+fn keep_pour(bench: &mut Workbench, pour: &Vec<Painted>)
+    requires { HasRows bench.old }
+{
+    if pattern::is_timed_frame(bench.frame()) {
+        cover(bench, pour);
+    }
 }
 
 // A name and its time a cell.
@@ -110,10 +124,26 @@ fn main(rt: HostRuntime) -> io::Result<()> {
     };
     let text = line(alloc, "cover pour", cover_time(&rt, alloc, &pour, true)?)?;
     println!(rt; "{text}")?;
+    println!(rt; "over the discs:")?;
     let mut bench = new_grid(alloc)?;
     pattern::keep_discs(&mut bench);
     for call in CALLS {
-        let text = line(alloc, call.name(), least_time(&rt, call, &mut bench)?)?;
+        let text = line(
+            alloc,
+            call.name(),
+            least_time(&rt, alloc, call, &mut bench)?,
+        )?;
+        println!(rt; "{text}")?;
+    }
+    println!(rt; "over the pour:")?;
+    let mut bench = new_grid(alloc)?;
+    keep_pour(&mut bench, &pour);
+    for call in CALLS {
+        let text = line(
+            alloc,
+            call.name(),
+            least_time(&rt, alloc, call, &mut bench)?,
+        )?;
         println!(rt; "{text}")?;
     }
     Ok(())
